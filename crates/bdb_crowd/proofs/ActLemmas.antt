@@ -5,6 +5,7 @@ use Rattle.std.specs.Io.KnownBytes.{Appends}
 use Rattle.std.proofs.lemmas.List.{append-nil, length-map, length-take}
 use Rattle.bdb_base.specs.Causes.{Rises}
 use Rattle.bdb_base.specs.Texts.{line}
+use Rattle.bdb_base.proofs.BoolLemmas.{not_twice}
 use Rattle.bdb_events.specs.Forms.{NamesSession}
 use Rattle.bdb_events.specs.declared.read.Read.{Read}
 use Rattle.bdb_keep.specs.Seen.{Seen, Unchanged}
@@ -99,12 +100,8 @@ pub run_by : (s : State) (q : Commands) (r : BatchReply) (now : Known) (first la
     → IsRunBy s q now first last (Ok r)
 run_by s q r now first last refused accepted text next commits = (record { refused = refused; accepted = accepted; text = text }, record { agrees = next; rises = commits })
 
-not_not : (b : Bool) → not (not b) ≡ b
-not_not true = refl
-not_not false = refl
-
 fine_by : (refused whole : Bool) → refused ≡ not whole → not refused ≡ whole
-fine_by refused whole is = ap not is ∙ not_not whole
+fine_by refused whole is = ap not is ∙ not_twice whole
 
 one_due : (s : State) (n : ℕ) (c : List ℕ) (now : Known) (first last : Seen) (r : BatchReply) → IsRunBy s (c ∷ []) now first last (Ok r)
     → Lands (due_to s n (One c)).next (due_to s n (One c)).commits now first last × (not r.refused ≡ (due_to s n (One c)).fine) × (marked n r.text ≡ (due_to s n (One c)).reply)

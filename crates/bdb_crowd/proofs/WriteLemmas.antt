@@ -6,7 +6,7 @@ use Rattle.std.specs.List.{position, position_or_len}
 use Rattle.std.proofs.KnownBytes.{Appends-trans}
 use Rattle.std.proofs.lemmas.Bool.{cases_Bool, cond-true, cond-false, ltb-false}
 use Rattle.std.proofs.lemmas.Fmt.{decimal_digit, decimal_step}
-use Rattle.std.proofs.lemmas.List.{append-nil, drop_all, length-append, take-append-le, take_all}
+use Rattle.std.proofs.lemmas.List.{append-nil, drop_all, length-append, take-append-le, take_all, nil_from_length}
 use Rattle.std.proofs.lemmas.List.Quantifiers.{position-Some}
 use Rattle.bdb_many.specs.Marks.{marked_from}
 use Rattle.bdb_stream.proofs.HandledLemmas.{grows_as}
@@ -131,10 +131,6 @@ line_stops m all rest piece k a b c h cut is part =
     let Q : List ℕ → Type 0 = λ l. (j : ℕ) × (j ≤ length (m ++ l)) × Appends b c (take j (m ++ l)) in
     subst P (sym (next_line m all rest k h.0 h.1 cut)) (wrote_part a b c h.0 (x ++ y) h.2 (wrote_less b c x y (subst Q is part)))
 
-empty_is : (xs : List ℕ) → length xs ≡ 0 → xs ≡ []
-empty_is [] h = refl
-empty_is (x ∷ xs) h = absurd (omega (arith, h))
-
 pub lines_end : (m all rest : List ℕ) (a b : Option (List ℕ)) → IsLeft m all rest a b → length rest ≡ 0 → Appends a b (marked_from m true all)
 lines_end m all rest a b h none =
-    grows_as a b h.0 (marked_from m true all) (sym (h.1 ∙ ap (λ l. h.0 ++ marked_from m true l) (empty_is rest none) ∙ append-nil h.0)) h.2
+    grows_as a b h.0 (marked_from m true all) (sym (h.1 ∙ ap (λ l. h.0 ++ marked_from m true l) (nil_from_length rest none) ∙ append-nil h.0)) h.2

@@ -2,17 +2,18 @@
 use Rattle.std.proofs.Common.{◌≡◌, ◌∙◌, ◌<◌, ℕ, suc, arith, length, get_or, Bool, true, false, not, ◌&&◌, ◌||◌, nat_eq, List, [], ◌∷◌, filter, Option, Some, None, cond, inl, inr, is_some, refl, ap, sym, subst}
 use Prim.Native.Nat.{zero}
 use Rattle.std.specs.List.{list_any, list_all, AllByRecursion}
-use Rattle.std.proofs.lemmas.Bool.{false≢true, cases_Bool, and_parts, and_from, or_cases, or_left, or_right, cond-true, cond-false, eqb-true, eq-eqb}
+use Rattle.std.proofs.lemmas.Bool.{false≢true, cases_Bool, and_parts, and_from, or_cases, or_left, or_right, cond-true, cond-false, eqb-true, eq-eqb, not-true}
 use Rattle.bdb_base.specs.declared.kinds.Sign.{Sign}
 use Rattle.bdb_base.specs.declared.tuple.Tuple.{Tuple}
 use Rattle.bdb_base.specs.Clash.{clash}
 use Rattle.bdb_base.specs.SameLemmas.{same_sign-Decides}
 use Rattle.bdb_base.proofs.CountLemmas.{list_any-filter_some}
 use Rattle.bdb_base.proofs.ListLemmas.{filter_kept_one, filter_dropped_one}
+use Rattle.bdb_base.proofs.AllLemmas.{all_both}
+use Rattle.bdb_base.proofs.ClashLemmas.{clash_of}
 use Rattle.bdb_tables.proofs.Loops.{all_at_index}
 use Rattle.bdb_tables.specs.Marks.{Mark, sign_of, explicit_of}
 use Rattle.bdb_update.proofs.ExplicitLemmas.{unfiltered}
-use Rattle.bdb_update.proofs.KeyLemmas.{clash_of}
 use Rattle.bdb_val.specs.Settled.{settled_mark, passed_on, is_barred}
 use Rattle.bdb_val.specs.Settling.{mark_in, barred_by, next_mark, AreNamed, are_apart}
 use Rattle.bdb_val.specs.declared.stored.Stored.{Stored}
@@ -36,10 +37,6 @@ kept_all P p (x ∷ xs) a = elim (cases_Bool (p x)) [
   | inl e ↦ subst (AllByRecursion P) (sym (filter_kept_one p x xs e)) (a.0 e, kept_all P p xs a.1)
   | inr e ↦ subst (AllByRecursion P) (sym (filter_dropped_one p x xs e)) (kept_all P p xs a.1)
 ]
-
-all_two : {X : Type 0} (P Q R : X → Type 0) (xs : List X) → ((x : X) → P x → Q x → R x) → AllByRecursion P xs → AllByRecursion Q xs → AllByRecursion R xs
-all_two P Q R [] f a b = tt
-all_two P Q R (x ∷ xs) f a b = (f x a.0 b.0, all_two P Q R xs f a.1 b.1)
 
 later_any : {X : Type 0} (p q : X → Bool) (x : X) (xs : List X) → list_any p (filter q xs) ≡ true → list_any p (filter q (x ∷ xs)) ≡ true
 later_any p q x xs h = elim (cases_Bool (q x)) [
@@ -111,10 +108,6 @@ split_found xs tid e =
 
 -- ---- marks
 
-not_true : (b : Bool) → not b ≡ true → b ≡ false
-not_true true e = absurd (false≢true e)
-not_true false e = refl
-
 signed : (s : Sign) (q : Option Mark) → has_sign s q ≡ true → sign_of q ≡ Some s
 signed s None e = absurd (false≢true e)
 signed s (Some m) e = ap Some ((same_sign-Decides m.0 s).0 e)
@@ -181,11 +174,11 @@ module _ (keys : ℕ → ℕ) (tuple : ℕ → Option Tuple) (own from : List St
       parts = and_parts (list_all (is_fitting keys stated from) inherited) (list_all (is_passed keys stated inherited) from) h
 
       fits : AllByRecursion Fits own
-      fits = all_two (λ x. tuple x.tid ≡ Some x.tuple) (λ x. is_inherited x ≡ true → is_fitting keys stated from x ≡ true) Fits own (λ x p q. (p, q)) a
+      fits = all_both (λ x. tuple x.tid ≡ Some x.tuple) (λ x. is_inherited x ≡ true → is_fitting keys stated from x ≡ true) Fits own (λ x p q. (p, q)) a
           (unfiltered (λ x. is_fitting keys stated from x ≡ true) is_inherited own (all_true (is_fitting keys stated from) inherited parts.0))
 
       passes : AllByRecursion Passes from
-      passes = all_two (λ y. tuple y.tid ≡ Some y.tuple) (λ y. is_passed keys stated inherited y ≡ true) Passes from (λ y p q. (p, q)) b (all_true (is_passed keys stated inherited) from parts.1)
+      passes = all_both (λ y. tuple y.tid ≡ Some y.tuple) (λ y. is_passed keys stated inherited y ≡ true) Passes from (λ y p q. (p, q)) b (all_true (is_passed keys stated inherited) from parts.1)
 
       value : (o q : Option Mark) → mark_in own tid ≡ o → mark_in from tid ≡ q → o ≡ next u o q
       value None None e f = refl
@@ -213,7 +206,7 @@ module _ (keys : ℕ → ℕ) (tuple : ℕ → Option Tuple) (own from : List St
             (x.1.1 (ap (λ (k : Mark). not k.1) x.3 ∙ ap not c)) in
             inherited_settled m (barred_by keys own u) q c
             (ap (λ t. barred_by keys own t m.0) (sym same) ∙ ap (λ (k : Mark). barred_by keys own x.0.tuple k.0) (sym x.3)
-            ∙ sym (barred_stated keys own x.0.tuple x.0.mark.0) ∙ not_true (barred_by keys stated x.0.tuple x.0.mark.0) fit.0)
+            ∙ sym (barred_stated keys own x.0.tuple x.0.mark.0) ∙ not-true (barred_by keys stated x.0.tuple x.0.mark.0) fit.0)
             (ap (has_sign m.0) (sym f) ∙ ap (λ i. has_sign m.0 (mark_in from i)) (sym x.2) ∙ ap (λ (k : Mark). has_sign k.0 (mark_in from x.0.tid)) (sym x.3) ∙ fit.1)
       ]
 
@@ -221,13 +214,13 @@ module _ (keys : ℕ → ℕ) (tuple : ℕ → Option Tuple) (own from : List St
   pub next_settles : are_apart own ≡ true → are_apart from ≡ true → ((tid : ℕ) (u : Tuple) → tuple tid ≡ Some u → mark_in own tid ≡ next_mark keys own from tid u) → settles keys own from ≡ true
   next_settles c d h = and_from (list_all (is_fitting keys stated from) inherited) (list_all (is_passed keys stated inherited) from)
       (true_all (is_fitting keys stated from) inherited (kept_all (λ x. is_fitting keys stated from x ≡ true) is_inherited own
-      (all_two (λ x. tuple x.tid ≡ Some x.tuple) (λ x. mark_in own x.tid ≡ Some x.mark) (λ x. is_inherited x ≡ true → is_fitting keys stated from x ≡ true) own fit a (mark_of_each own own (λ _ _ k. k) c))))
+      (all_both (λ x. tuple x.tid ≡ Some x.tuple) (λ x. mark_in own x.tid ≡ Some x.mark) (λ x. is_inherited x ≡ true → is_fitting keys stated from x ≡ true) own fit a (mark_of_each own own (λ _ _ k. k) c))))
       (true_all (is_passed keys stated inherited) from
-      (all_two (λ y. tuple y.tid ≡ Some y.tuple) (λ y. mark_in from y.tid ≡ Some y.mark) (λ y. is_passed keys stated inherited y ≡ true) from pass b (mark_of_each from from (λ _ _ k. k) d)))
+      (all_both (λ y. tuple y.tid ≡ Some y.tuple) (λ y. mark_in from y.tid ≡ Some y.mark) (λ y. is_passed keys stated inherited y ≡ true) from pass b (mark_of_each from from (λ _ _ k. k) d)))
     where
       fit : (x : Stored) → tuple x.tid ≡ Some x.tuple → mark_in own x.tid ≡ Some x.mark → is_inherited x ≡ true → is_fitting keys stated from x ≡ true
       fit x n k i =
-          let told = settled_inherited x.mark (barred_by keys own x.tuple) (mark_in from x.tid) (not_true x.mark.1 i)
+          let told = settled_inherited x.mark (barred_by keys own x.tuple) (mark_in from x.tid) (not-true x.mark.1 i)
           (sym k ∙ h x.tid x.tuple n ∙ ap (λ o. next x.tuple o (mark_in from x.tid)) k) in
           and_from (not (barred_by keys stated x.tuple x.mark.0)) (has_sign x.mark.0 (mark_in from x.tid)) (ap not (barred_stated keys own x.tuple x.mark.0 ∙ told.0)) told.1
 

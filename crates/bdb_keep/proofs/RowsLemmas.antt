@@ -11,8 +11,7 @@ use Rattle.bdb_keep.specs.Tables.{IsPlace, Tables, bytes_cmp, set_at}
 use Rattle.bdb_keep.specs.Entries.{Entries, row_of, place_at, rows_of, KeepsPlaces, IsSetAt}
 use Rattle.bdb_keep.specs.Changes.{places_of, undone, HavePlaces}
 use Rattle.bdb_keep.specs.declared.changes.Change.{Change}
-use Rattle.std.specs.declared.cmp.Ordering.{Ordering}
-use Rattle.std.specs.declared.cmp.Ordering.TheVariants.{Less, Equal, Greater}
+use Rattle.bdb_base.proofs.SetLemmas.{is_eq-Equal}
 
 -- what tables have at a place after another was set
 pub get-set_at : (t : Tables) (p : List ℕ) (r : Option (List ℕ)) (q : List ℕ) → map.get (set_at t p r) q ≡ cond (eq_by_cmp bytes_cmp q p) r (map.get t q)
@@ -32,14 +31,9 @@ pub get_rows_of : (es : Entries) (q : List ℕ) → map.get (rows_of es) q ≡ r
 get_rows_of [] q = get-empty bytes_cmp q
 get_rows_of (e ∷ es) q = get-set_at (rows_of es) e.0 e.1 q ∙ ap (cond (is_eq (bytes_cmp q e.0)) e.1) (get_rows_of es q) ∙ moved row_of (is_eq (bytes_cmp q e.0)) (Some e.1) (place_at es q)
 
-is_equal : (r : Ordering) → is_eq r ≡ true → r ≡ Equal
-is_equal Less e = (cc)
-is_equal Equal e = refl
-is_equal Greater e = (cc)
-
 -- two keys in one place are the same bytes
 pub same_place : (q p : List ℕ) → eq_by_cmp bytes_cmp q p ≡ true → q ≡ p
-same_place q p e = exact_bytes q p (is_equal (bytes_cmp q p) e)
+same_place q p e = exact_bytes q p (is_eq-Equal (bytes_cmp q p) e)
 
 -- setting a place back to what it had changes nothing
 pub set_at-back : (t : Tables) (p : List ℕ) (r : Option (List ℕ)) → set_at (set_at t p r) p (map.get t p) ≡ t

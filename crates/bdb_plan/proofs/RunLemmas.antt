@@ -24,9 +24,11 @@ use Rattle.bdb_base.specs.Safety.{equality}
 use Rattle.bdb_base.proofs.CountLemmas.{list_any-map}
 use Rattle.bdb_base.proofs.SetLemmas.{is_eq-Equal, is_eq_itself, set_is_ascending, set_keeps_members}
 use Rattle.bdb_base.proofs.WorldRowsLemmas.{list_any-flat_map}
+use Rattle.bdb_base.proofs.FindLemmas.{list_any-filter}
+use Rattle.bdb_base.proofs.ConditionLemmas.{equal_sides}
+use Rattle.bdb_base.proofs.BoolLemmas.{or_true}
 use Rattle.bdb_queries.specs.Slots.{slot_at, known, known_operand, must_hold, known_row, uid_of}
-use Rattle.bdb_queries.proofs.FoundLemmas.{Found, found_with, list_any-filter, option_map_some}
-use Rattle.bdb_queries.proofs.RangeLemmas.{equal_sides}
+use Rattle.bdb_queries.proofs.FoundLemmas.{Found, found_with, option_map_some}
 use Rattle.bdb_plan.specs.declared.step.Step.{Step}
 use Rattle.bdb_plan.specs.declared.step.Step.TheVariants as step
 use Rattle.bdb_plan.specs.Fitness.{Fields, Placed, is_among, is_set, operand_is_set, who_is_set, is_new, comes_next, is_walked, is_whole, at_width, placed_if, with_user, with_walk, with_tuple, with_column, with_all_bound, placed_after, fits_from, at_first}
@@ -52,10 +54,6 @@ world_tells false n m e = cc
 
 world_is : (t : Bool) (n : ℕ) → t ≡ true → world_if t n ≡ Some n
 world_is t n h = ap (λ x. world_if x n) h
-
-some_of : {X : Type 0} (o : Option X) → is_some o ≡ true → (x : X) × (o ≡ Some x)
-some_of None h = absurd (false≢true h)
-some_of (Some x) h = (x, refl)
 
 any_option : {X Y : Type 0} (q : Y → Bool) (F : X → List Y) (o : Option X) → list_any q (flat_map F (option_list o)) ≡ true → (x : X) × (o ≡ Some x) × (list_any q (F x) ≡ true)
 any_option q F None h = absurd (false≢true h)
@@ -121,10 +119,6 @@ users_stay n w p p' x u e = by x e
 
     one_more : (item i : ℕ) → is_among p.users i ≡ true → (nat_eq i item || is_among p.items i) ≡ true
     one_more item i h = ap (λ b. nat_eq i item || b) (u i h) ∙ or_true (nat_eq i item)
-      where
-        or_true : (b : Bool) → (b || true) ≡ true
-        or_true true = refl
-        or_true false = refl
 
     user : (item i : ℕ) → (nat_eq i item || is_among p.users i) ≡ true → (nat_eq i item || is_among p.items i) ≡ true
     user item i h = elim (or_cases (nat_eq i item) (is_among p.users i) h) [

@@ -2,6 +2,7 @@
 use Rattle.std.proofs.Common.{◌≡◌, ◌∙◌, ℕ, ◌≤◌, Bool, true, false, ◌&&◌, List, [], ◌∷◌, ◌++◌, length, take, ap, sym, subst, refl, arith}
 use Rattle.std.specs.List.{list_all}
 use Rattle.std.proofs.lemmas.List.{append_assoc}
+use Rattle.std.proofs.lemmas.Bool.{and_from}
 use Rattle.bdb_base.specs.declared.kinds.Value.{Value}
 use Rattle.bdb_base.specs.declared.kinds.Value.TheVariants.{Int, Text}
 use Rattle.bdb_key.specs.Bytes.{value_bytes, values_bytes}
@@ -40,3 +41,8 @@ values_part (v ∷ vs) [] a b pv px few e = absurd (omega (arith, few))
 values_part (v ∷ vs) (x ∷ xs) a b pv px few e =
     let one = value_form x v (values_bytes xs ++ a) (values_bytes vs ++ b) px.0 pv.0 (sym (append_assoc (value_bytes x) (values_bytes xs) a) ∙ e ∙ append_assoc (value_bytes v) (values_bytes vs) b) in
     ap (λ (y : Value). y ∷ take (length vs) xs) one.0 ∙ ap (λ (ys : List Value). v ∷ ys) (values_part vs xs a b pv.1 px.1 (omega (arith, few)) one.1)
+
+pub all_written : (vs : List Value) → ArePlain vs → list_all is_written vs ≡ true
+all_written [] a = refl
+all_written (Int m ∷ vs) a = all_written vs a.1
+all_written (Text t ∷ vs) a = and_from (is_written (Text t)) (list_all is_written vs) a.0 (all_written vs a.1)

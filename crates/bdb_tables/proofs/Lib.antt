@@ -20,3 +20,4 @@ pub mod PartLemmas
 pub mod Plain
 pub mod Prefixes
 pub mod WriteLemmas
+pub mod UsedLemmas

@@ -1,6 +1,8 @@
 -- How a run ends, by its status.
-use Rattle.std.proofs.Common.{◌≡◌, ◌≢◌, ◌∙◌, ℕ, ◌-◌, ◌^◌, ◌<◌, ◌≤◌, ◌⊎◌, inl, inr, zero, suc, Bool, true, false, List, [], ◌∷◌, ◌++◌, Option, Some, None, Result, Ok, Err, IfSome, IsErrOf, OnOk, length, refl, ap, sym, subst, arith}
+use Rattle.std.proofs.Common.{◌≡◌, ◌≢◌, ◌∙◌, ℕ, ◌-◌, ◌^◌, ◌<◌, ◌≤◌, ◌⊎◌, inl, inr, zero, suc, Bool, true, false, List, [], Option, Some, None, Result, Ok, Err, IfSome, IsErrOf, OnOk, length, refl, ap, sym, subst, arith}
 use Rattle.std.specs.Io.KnownBytes.{Appends, IsAtEnd}
+use Rattle.std.proofs.lemmas.List.{append-nil}
+use Rattle.std.proofs.KnownBytes.{Appends-nil}
 use Rattle.bdb_base.specs.Bases.{Contents}
 use Rattle.bdb_base.specs.Causes.{Rises}
 use Rattle.bdb_base.specs.Limits.{longest_script}
@@ -18,14 +20,6 @@ use Rattle.bdb_stream.specs.declared.error.RunError.{RunError}
 use Rattle.bdb_stream.specs.declared.error.RunError.TheVariants.{Source, Sink, Keeper, Memory, Large}
 use Rattle.bdb_top.specs.Ran.{EachBase, Ran, RanBy, StandsForNone, CommitsFor}
 use Rattle.bdb_undo.specs.Timelines.{Timeline, started}
-
-append_nil : {X : Type 0} (xs : List X) → xs ++ [] ≡ xs
-append_nil [] = refl
-append_nil (x ∷ xs) = ap (λ l. x ∷ l) (append_nil xs)
-
-pub nothing_grows : (a : Option (List ℕ)) → Appends a a []
-nothing_grows None = tt
-nothing_grows (Some s) = sym (append_nil s)
 
 -- the commits of events, behind that of opening
 commits_on : (k n a m z : ℕ) → Rises n a m → Rises k m z → z < 2 ^ 64 - 1 → k ≡ z - a - n
@@ -71,7 +65,7 @@ module _ {H : Type 0} (m : Handling H) (o : IsInOrder m) (base_at : m.Point → 
 
   -- nothing is written of nothing that is done
   nothing_written : (p : m.Point) (old : Option (List ℕ)) → Appends old old (m.replies p [])
-  nothing_written p old = subst (λ (l : List ℕ). Appends old old l) (sym (o.no_reply p)) (nothing_grows old)
+  nothing_written p old = subst (λ (l : List ℕ). Appends old old l) (sym (o.no_reply p)) (Appends-nil old)
 
   -- a run whose keeper was not opened
   pub closed : (p : m.Point) (text : List ℕ) (first now : Seen) (old : Option (List ℕ)) (status : ℕ)
@@ -91,7 +85,7 @@ module _ {H : Type 0} (m : Handling H) (o : IsInOrder m) (base_at : m.Point → 
     keeps_up = record {
       taken = [];
       consumed = refl;
-      caught = record { first = ([], refl); replied = ([], subst (λ (l : List ℕ). Appends old old l) (sym (append_nil (m.replies p []))) (nothing_written p old)) };
+      caught = record { first = ([], refl); replied = ([], subst (λ (l : List ℕ). Appends old old l) (sym (append-nil (m.replies p []))) (nothing_written p old)) };
       source = λ e. absurd (elim is [ inl f ↦ omega arith | inr f ↦ omega arith ]);
       large = λ e. absurd (elim is [ inl f ↦ omega arith | inr f ↦ omega arith ]);
     };

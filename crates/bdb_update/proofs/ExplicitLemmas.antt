@@ -4,8 +4,10 @@ use Rattle.std.specs.Bool.{MatchBool}
 use Rattle.std.specs.FinMap as tables
 use Rattle.std.specs.List.{AllByRecursion}
 use Rattle.std.proofs.lemmas.Bool.{cases_Bool, cond-true, cond-false, false≢true}
-use Rattle.std.proofs.lemmas.List.{take_more}
+use Rattle.std.proofs.lemmas.List.{take_more, append-nil}
 use Rattle.bdb_base.specs.declared.tuple.Tuple.{Tuple}
+use Rattle.bdb_base.proofs.OptionLemmas.{some_of, same_some}
+use Rattle.bdb_base.proofs.ListLemmas.{filter_push}
 use Rattle.bdb_keep.specs.Tables.{Tables}
 use Rattle.bdb_key.specs.Bytes.{num_bytes}
 use Rattle.bdb_tables.specs.Codec.{IsEntryOf, place}
@@ -13,28 +15,12 @@ use Rattle.bdb_tables.specs.Grammar.{InGrammar}
 use Rattle.bdb_tables.specs.InUse.{ValKey, tuple_codec}
 use Rattle.bdb_tables.specs.InUseLaws.{tuple_rows_are_one}
 use Rattle.bdb_tables.specs.Marks.{Mark}
-use Rattle.bdb_tables.proofs.Held.{some_same}
 use Rattle.bdb_val.specs.Reads.{AreReadUnder, AreTold, HaveTuples, IsTold}
 use Rattle.bdb_val.specs.declared.stored.Stored.{Stored}
-use Rattle.bdb_val.proofs.HeldLemmas.{some_is}
 use Rattle.bdb_val.proofs.ToldLemmas.{Stands, entries_stand}
 use Rattle.bdb_update.specs.Groups.{AreExplicit, AreExplicitUnder, HasTuple, IsPicked, is_explicit_entry}
 
 -- ---- one row more
-
-filter_push : {X : Type 0} (p : X → Bool) (xs : List X) (x : X) → filter p (xs ++ x ∷ []) ≡ filter p xs ++ cond (p x) (x ∷ []) []
-filter_push p [] x = refl
-filter_push p (y ∷ ys) x = by (p y) refl (filter_push p ys x)
-  where
-    by : (b : Bool) → p y ≡ b → filter p (ys ++ x ∷ []) ≡ filter p ys ++ cond (p x) (x ∷ []) [] → filter p (y ∷ (ys ++ x ∷ [])) ≡ filter p (y ∷ ys) ++ cond (p x) (x ∷ []) []
-    by true e more = cond-true (p y) (y ∷ filter p (ys ++ x ∷ [])) (filter p (ys ++ x ∷ [])) e ∙ ap (λ l. y ∷ l) more
-        ∙ sym (ap (λ l. l ++ cond (p x) (x ∷ []) []) (cond-true (p y) (y ∷ filter p ys) (filter p ys) e))
-    by false e more = cond-false (p y) (y ∷ filter p (ys ++ x ∷ [])) (filter p (ys ++ x ∷ [])) e ∙ more
-        ∙ sym (ap (λ l. l ++ cond (p x) (x ∷ []) []) (cond-false (p y) (y ∷ filter p ys) (filter p ys) e))
-
-append_none : {X : Type 0} (xs : List X) → xs ++ [] ≡ xs
-append_none [] = refl
-append_none (x ∷ xs) = ap (λ l. x ∷ l) (append_none xs)
 
 told_push : (t : Tables) (es : List (ValKey × Mark)) (e : ValKey × Mark) (xs : List Stored) (x : Stored) → AreTold t es xs → IsTold t e x → AreTold t (es ++ e ∷ []) (xs ++ x ∷ [])
 told_push t [] e [] x a h = (h, tt)
@@ -50,7 +36,7 @@ picked t es e xs ys a h = elim (cases_Bool e.1.1) [
       (subst (AreTold t (filter is_explicit_entry es ++ e ∷ [])) (sym k.2) (told_push t (filter is_explicit_entry es) e xs k.0 a k.1))
   | inr c ↦
       let k : ys ≡ xs = subst (λ b. MatchBool b ((x : Stored) × IsTold t e x × (ys ≡ xs ++ x ∷ [])) (ys ≡ xs)) c h in
-      subst (λ ds. AreTold t ds ys) (sym (filter_push is_explicit_entry es e ∙ ap (λ (b : Bool). filter is_explicit_entry es ++ cond b (e ∷ []) []) c ∙ append_none (filter is_explicit_entry es)))
+      subst (λ ds. AreTold t ds ys) (sym (filter_push is_explicit_entry es e ∙ ap (λ (b : Bool). filter is_explicit_entry es ++ cond b (e ∷ []) []) c ∙ append-nil (filter is_explicit_entry es)))
       (subst (AreTold t (filter is_explicit_entry es)) (sym k) a)
 ]
 
@@ -68,7 +54,7 @@ have_tuples t (e ∷ es) h a = (h e.0 a.0.0 a.0.1, have_tuples t es h a.1)
 module _ (t : Tables) (grammar : InGrammar t) where
   row_told : (e : ValKey × Mark) → HasTuple t e → (x : Stored) × IsTold t e x
   row_told e h =
-      let r = some_is (tables.get t (place tuple_codec e.0.3)) h in
+      let r = some_of (tables.get t (place tuple_codec e.0.3)) h in
       let k : IsEntryOf tuple_codec (num_bytes e.0.3) r.0 = grammar 4 (num_bytes e.0.3) r.0 r.1 in (
         record { tid = e.0.3; tuple = k.row; mark = e.1 },
         record { tid = refl; mark = refl; tuple = record { in_grammar = k.row_reads.fits; found = r.1 ∙ ap Some (sym k.row_reads.spelled) } },
@@ -91,7 +77,7 @@ one_told t e x y a b =
     let tid : x.tid ≡ y.tid = a.tid ∙ sym b.tid in
     let there : tables.get t (place tuple_codec x.tid) ≡ Some (tuple_codec.row_bytes y.tuple) = ap (λ n. tables.get t (place tuple_codec n)) tid ∙ b.tuple.found in
     let tuple : x.tuple ≡ y.tuple = tuple_rows_are_one x.tuple y.tuple a.tuple.in_grammar b.tuple.in_grammar
-    (some_same (tuple_codec.row_bytes x.tuple) (tuple_codec.row_bytes y.tuple) (sym a.tuple.found ∙ there)) in
+    (same_some (tuple_codec.row_bytes x.tuple) (tuple_codec.row_bytes y.tuple) (sym a.tuple.found ∙ there)) in
     ap (λ n. made n x.tuple x.mark) tid ∙ ap (λ u. made y.tid u x.mark) tuple ∙ ap (λ m. made y.tid y.tuple m) (a.mark ∙ sym b.mark)
 
 -- those that are explicit among all
@@ -130,13 +116,6 @@ among_all t prefix xs g h u =
     }
 
 -- ---- what holds of rows
-
-pub filtered : {X : Type 0} (P : X → Type 0) (p : X → Bool) (xs : List X) → AllByRecursion P xs → AllByRecursion P (filter p xs)
-filtered P p [] a = tt
-filtered P p (x ∷ xs) a = elim (cases_Bool (p x)) [
-  | inl e ↦ subst (AllByRecursion P) (sym (cond-true (p x) (x ∷ filter p xs) (filter p xs) e)) (a.0, filtered P p xs a.1)
-  | inr e ↦ subst (AllByRecursion P) (sym (cond-false (p x) (x ∷ filter p xs) (filter p xs) e)) (filtered P p xs a.1)
-]
 
 pub unfiltered : {X : Type 0} (P : X → Type 0) (p : X → Bool) (xs : List X) → AllByRecursion P (filter p xs) → AllByRecursion (λ x. p x ≡ true → P x) xs
 unfiltered P p [] a = tt

@@ -10,7 +10,7 @@ use Rattle.bdb_base.specs.Bases.{Contents, IsValid, belongs, is_user, has_tuple,
 use Rattle.bdb_base.specs.Clash.{clash, key_of}
 use Rattle.bdb_base.specs.Laws.{ClashesAt}
 use Rattle.bdb_base.specs.Order.{path_cmp, sign_cmp, statement_cmp, tuple_cmp}
-use Rattle.bdb_base.specs.OrderLemmas.{is_eq_statement_cmp, is_eq_path_cmp, is_eq_tuple_cmp}
+use Rattle.bdb_base.specs.OrderLemmas.{is_eq_path_cmp, is_eq_tuple_cmp}
 use Rattle.bdb_base.specs.Same.{same_sign, same_statement, same_tuple, same_values}
 use Rattle.bdb_base.specs.SameLemmas.{same_path-Decides, same_sign-Decides, same_tuple-Decides, same_values-Decides}
 use Rattle.bdb_base.specs.States.{is_state, new_states}
@@ -24,9 +24,12 @@ use Rattle.bdb_base.proofs.ClashLemmas.{same_tuple_turned}
 use Rattle.bdb_base.proofs.FirstLemmas.{explicit_statement, statement_explicit}
 use Rattle.bdb_base.proofs.LeastLemmas.{least_clash_is_least, no_least_clash}
 use Rattle.bdb_base.proofs.SetLemmas.{is_eq-Equal}
-use Rattle.bdb_base.proofs.WorldLemmas.{nothing_stands, valid_is_consistent}
+use Rattle.bdb_base.proofs.WorldLemmas.{nothing_stands, valid_is_consistent, stands_is_explicit}
+use Rattle.bdb_base.proofs.OptionLemmas.{none_and_some}
+use Rattle.bdb_base.proofs.ListLemmas.{list_any_same}
+use Rattle.bdb_base.proofs.AllLemmas.{all_filter}
 use Rattle.bdb_keep.specs.Tables.{Tables}
-use Rattle.bdb_paths.proofs.StateLemmas.{list_any_same, put_counts_worlds, states_have_prefixes}
+use Rattle.bdb_paths.proofs.StateLemmas.{put_counts_worlds, states_have_prefixes}
 use Rattle.bdb_tables.specs.Names.{number_of}
 use Rattle.bdb_val.specs.Reads.{is_of_group}
 use Rattle.bdb_val.specs.declared.stored.Stored.{Stored}
@@ -42,7 +45,7 @@ use Rattle.bdb_update.specs.Looking.{IsPlace, is_clashing, is_own, least_row, pr
 use Rattle.bdb_tables.specs.Stored.{Stores}
 use Rattle.bdb_tables.specs.GroupMarks.{group_bytes}
 use Rattle.bdb_update.specs.declared.looking.Place.{Place}
-use Rattle.bdb_update.proofs.ExplicitLemmas.{AmongAll, among_all, filtered, is_explicit_row, unfiltered}
+use Rattle.bdb_update.proofs.ExplicitLemmas.{AmongAll, among_all, is_explicit_row, unfiltered}
 use Rattle.bdb_update.proofs.GrammarLemmas.{stored_is_in_grammar}
 use Rattle.bdb_update.proofs.LeastLemmas.{IsLeastRow, IsNotBelow, least_is, none_clash, least_alike}
 use Rattle.bdb_update.proofs.MissingLemmas.{missing_behind}
@@ -50,13 +53,7 @@ use Rattle.bdb_update.proofs.OwnLemmas.{IsSaid, rows_said, said_rows}
 use Rattle.bdb_update.proofs.StageLemmas.{belongs_parts, over_has_tuples}
 use Rattle.bdb_update.proofs.TupleLemmas.{number_read}
 
-none_some : {X : Type 0} (x : X) (o : Option X) → o ≡ None → o ≡ Some x → ⊥
-none_some x o a b = cc
-
 -- ---- statements that stand
-
-pub stands_is : (stmts : List Stmt) (x : Stmt) → stands stmts x ≡ explicit stmts x.path x.tuple x.sign
-stands_is stmts x = list_any_same (λ y. is_eq (statement_cmp y x)) (λ y. same_statement y x) (λ y. is_eq_statement_cmp y x) stmts
 
 -- a statement as a row of its path says it
 abbrev pub said_by : Stmt → Stored → Stmt
@@ -134,7 +131,7 @@ module _ (t : Tables) (x : Stmt) (p : Place) (place : IsPlace t x p) (b : Conten
         (subst (λ q. AreExplicitUnder t q rows) prefix_is (place.rows full))
 
     said : AllByRecursion (IsSaid b.stmts x.path) rows
-    said = subst (AllByRecursion (IsSaid b.stmts x.path)) (sym among.are) (filtered (IsSaid b.stmts x.path) is_explicit_row among.all
+    said = subst (AllByRecursion (IsSaid b.stmts x.path)) (sym among.are) (all_filter (IsSaid b.stmts x.path) is_explicit_row among.all
         (rows_said t b s.names s.tuples s.stored consistent x.path p.wid number x.tuple place.fits among.all among.read))
 
     found : (Q : Stored → Type 0) → AllByRecursion Q rows → (v : Tuple) (r : Sign) → explicit b.stmts x.path v r ≡ true → is_of_group (keys_of b) x.tuple.rel (key_of (keys_of b) x.tuple) v ≡ true
@@ -207,7 +204,7 @@ module _ (t : Tables) (x : Stmt) (p : Place) (place : IsPlace t x p) (b : Conten
             ]
 
     own_here : list_any (is_own x) rows ≡ true → stands b.stmts x ≡ true
-    own_here e = stands_is b.stmts x ∙ go rows said e
+    own_here e = stands_is_explicit b.stmts x ∙ go rows said e
       where
         go : (rs : List Stored) → AllByRecursion (IsSaid b.stmts x.path) rs → list_any (is_own x) rs ≡ true → explicit b.stmts x.path x.tuple x.sign ≡ true
         go [] a f = absurd (false≢true f)
@@ -222,7 +219,7 @@ module _ (t : Tables) (x : Stmt) (p : Place) (place : IsPlace t x p) (b : Conten
 
     none_own : list_any (is_own x) rows ≡ false → stands b.stmts x ≡ false
     none_own e = false_from_ne_true (stands b.stmts x) (λ f.
-        let r = found (λ q. is_own x q ≡ false) (all_false rows e) x.tuple x.sign (sym (stands_is b.stmts x) ∙ f) like_itself in
+        let r = found (λ q. is_own x q ≡ false) (all_false rows e) x.tuple x.sign (sym (stands_is_explicit b.stmts x) ∙ f) like_itself in
         let own : is_own x r.0 ≡ true = and_from r.0.mark.1 (same_tuple r.0.tuple x.tuple && same_sign r.0.mark.0 x.sign) (ap (λ (m : Sign × Bool). m.1) r.2)
         (and_from (same_tuple r.0.tuple x.tuple) (same_sign r.0.mark.0 x.sign) ((same_tuple-Decides r.0.tuple x.tuple).1 r.1)
         ((same_sign-Decides r.0.mark.0 x.sign).1 (ap (λ (m : Sign × Bool). m.0) r.2))) in
@@ -259,7 +256,7 @@ module _ (t : Tables) (x : Stmt) (p : Place) (place : IsPlace t x p) (b : Conten
         false≢true (sym (none_explicit y.tuple y.sign) ∙ statement_explicit b.stmts x.path y c.0 c.1))
 
     none_stands : stands b.stmts x ≡ false
-    none_stands = stands_is b.stmts x ∙ none_explicit x.tuple x.sign
+    none_stands = stands_is_explicit b.stmts x ∙ none_explicit x.tuple x.sign
 
   -- ---- in any case
 
@@ -272,7 +269,7 @@ module _ (t : Tables) (x : Stmt) (p : Place) (place : IsPlace t x p) (b : Conten
   pub clash_found : (r : Stored) → least_row (λ _. p.key_len) x rows ≡ Some r → clash_of b x ≡ Some (said_by x r)
   clash_found r e = elim full_or_short [
     | inl f ↦ least_here f r (sym least_is_row ∙ e)
-    | inr n ↦ absurd (none_some r (least_row (λ _. p.key_len) x rows) (ap (least_row (λ _. p.key_len) x) (no_rows n)) e)
+    | inr n ↦ absurd (none_and_some r (least_row (λ _. p.key_len) x rows) (ap (least_row (λ _. p.key_len) x) (no_rows n)) e)
   ]
 
   pub no_clash_found : least_row (λ _. p.key_len) x rows ≡ None → clash_of b x ≡ None

@@ -10,8 +10,9 @@ use Rattle.bdb_base.specs.OrderLemmas.{tuple_exact}
 use Rattle.bdb_base.specs.declared.kinds.Stmt.{Stmt}
 use Rattle.bdb_base.specs.declared.tuple.Tuple.{Tuple}
 use Rattle.bdb_base.proofs.SetLemmas.{is_lt-Less, cases_Ordering, greater_from_less, less_from_greater}
+use Rattle.bdb_base.proofs.ClashLemmas.{clash_of}
+use Rattle.bdb_base.proofs.OptionLemmas.{none_and_some, same_some}
 use Rattle.bdb_val.specs.declared.stored.Stored.{Stored}
-use Rattle.bdb_update.proofs.KeyLemmas.{clash_of}
 use Rattle.bdb_update.specs.Looking.{is_clashing, first_of, least_row}
 
 -- ---- tuples in order
@@ -69,16 +70,10 @@ module _ (keys : ℕ → ℕ) where
   all_weaker f [] h = tt
   all_weaker f (q ∷ qs) h = (f q h.0, all_weaker f qs h.1)
 
-  the_one : {X : Type 0} (a b : X) → Some a ≡ Some b → a ≡ b
-  the_one a b e = cc
-
-  some_none : {X : Type 0} (a : X) (o : Option X) → o ≡ None → o ≡ Some a → ⊥
-  some_none a o e f = cc
-
   pub none_clash : (x : Stmt) (rows : List Stored) → least_row keys x rows ≡ None → AllByRecursion (λ q. is_clashing keys x q ≡ false) rows
   none_clash x [] e = tt
   none_clash x (q ∷ qs) e = elim (cases_Bool (is_clashing keys x q)) [
-    | inl c ↦ absurd (some_none (first_of q (least_row keys x qs)) (least_row keys x (q ∷ qs)) e (cond-true (is_clashing keys x q) (Some (first_of q (least_row keys x qs))) (least_row keys x qs) c))
+    | inl c ↦ absurd (none_and_some (first_of q (least_row keys x qs)) (least_row keys x (q ∷ qs)) e (cond-true (is_clashing keys x q) (Some (first_of q (least_row keys x qs))) (least_row keys x qs) c))
     | inr c ↦ (c, none_clash x qs (sym (cond-false (is_clashing keys x q) (Some (first_of q (least_row keys x qs))) (least_row keys x qs) c) ∙ e))
   ]
 
@@ -107,10 +102,10 @@ module _ (keys : ℕ → ℕ) where
       ]
 
   pub least_is : (x : Stmt) (rows : List Stored) (r : Stored) → least_row keys x rows ≡ Some r → IsLeastRow x rows r
-  least_is x [] r e = absurd (some_none r None refl e)
+  least_is x [] r e = absurd (none_and_some r None refl e)
   least_is x (q ∷ qs) r e = elim (cases_Bool (is_clashing keys x q)) [
     | inl c ↦
-        let f = the_one (first_of q (least_row keys x qs)) r (sym (cond-true (is_clashing keys x q) (Some (first_of q (least_row keys x qs))) (least_row keys x qs) c) ∙ e) in
+        let f = same_some (first_of q (least_row keys x qs)) r (sym (cond-true (is_clashing keys x q) (Some (first_of q (least_row keys x qs))) (least_row keys x qs) c) ∙ e) in
         subst (IsLeastRow x (q ∷ qs)) f (first_is x q qs c (least_row keys x qs) refl (λ s k. least_is x qs s k))
     | inr c ↦
         let l = least_is x qs r (sym (cond-false (is_clashing keys x q) (Some (first_of q (least_row keys x qs))) (least_row keys x qs) c) ∙ e) in

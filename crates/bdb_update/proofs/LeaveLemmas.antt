@@ -7,7 +7,8 @@ use Rattle.bdb_base.specs.Bases.{Contents, IsValid, stands, without_statement}
 use Rattle.bdb_base.specs.declared.kinds.Stmt.{Stmt}
 use Rattle.bdb_base.specs.declared.tuple.Tuple.{Tuple}
 use Rattle.bdb_base.proofs.BaseLemmas.{take_is_valid}
-use Rattle.bdb_base.proofs.WorldLemmas.{explicit_tuple}
+use Rattle.bdb_base.proofs.WorldLemmas.{explicit_tuple, stands_is_explicit}
+use Rattle.bdb_base.proofs.OptionLemmas.{some_of}
 use Rattle.bdb_canon.specs.Sizes.{counts_of}
 use Rattle.bdb_canon.specs.declared.sizes.Counts.{Counts}
 use Rattle.bdb_keep.specs.Seen.{Seen, GoesOn}
@@ -20,7 +21,6 @@ use Rattle.bdb_tables.specs.Rows.{row_for}
 use Rattle.bdb_tables.specs.declared.tab.TabError.{TabError}
 use Rattle.bdb_tables.specs.declared.tab.TabError.TheVariants as stop
 use Rattle.bdb_val.specs.Steps.{IsChanging, counted}
-use Rattle.bdb_val.proofs.HeldLemmas.{some_is}
 use Rattle.bdb_update.specs.Calls.{MayMeet, SomeMayMeet, without_one}
 use Rattle.bdb_update.specs.Differing.{has_told}
 use Rattle.bdb_update.specs.Joining.{IsWorld, is_of_tuples}
@@ -37,7 +37,6 @@ use Rattle.bdb_update.proofs.ComeLemmas.{rows_one, rows_same}
 use Rattle.bdb_update.proofs.ExamineLemmas.{world_if_any}
 use Rattle.bdb_update.proofs.JudgeLemmas.{none_standing, standing_found}
 use Rattle.bdb_update.proofs.OneStored.{explicit_state}
-use Rattle.bdb_tables.proofs.SignLemmas.{stands_is_explicit}
 use Rattle.bdb_update.proofs.PartCountLemmas.{one_statement_less, tuples_less}
 use Rattle.bdb_update.proofs.RowLemmas.{rows_of}
 use Rattle.bdb_update.proofs.StoredCounts.{over_count, over_few, stored_count}
@@ -113,7 +112,7 @@ module _ (t : Tables) (c : Counts) (x : Stmt) (p : Place) (place : IsPlace t x p
   world_here tid e w h own =
       let s = may.base.stored in
       let state = explicit_state b.stmts x.path x.tuple x.sign (sym (stands_is_explicit b.stmts x) ∙ stood tid e) in
-      let n = some_is (number_of s.names x.path) (s.stored.worlds x.path ∙ state) in
+      let n = some_of (number_of s.names x.path) (s.stored.worlds x.path ∙ state) in
       let path = names_are_one _ w.users s.names w.names t s.stored.states h n.0 in
       let named : number_of w.names x.path ≡ Some n.0 = h.names.named n.0 x.path (sym path ∙ s.stored.states.names.numbered x.path n.0 n.1) in
       world_if_any t x.path p.len p.wid place.reaches w h own (ap is_some named)

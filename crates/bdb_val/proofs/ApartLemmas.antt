@@ -1,7 +1,7 @@
 -- Where no number stands twice among rows, none is changed twice.
 use Rattle.std.proofs.Common.{◌≡◌, ◌∙◌, ℕ, Bool, true, false, nat_eq, List, [], ◌∷◌, ◌++◌, cond, inl, inr, refl, ap, sym, is_some}
 use Rattle.std.specs.List.{list_any, flat_map}
-use Rattle.std.proofs.lemmas.Bool.{false≢true, cases_Bool, or_cases, or_left, or_right, or_from, or_parts, false_from_ne_true, cond-true, cond-false, eqb-true, eq-eqb}
+use Rattle.std.proofs.lemmas.Bool.{false≢true, cases_Bool, or_cases, or_left, or_right, or_from, or_parts, false_from_ne_true, cond-true, cond-false, eqb-true, eq-eqb, true_from_ne_false}
 use Rattle.std.proofs.lemmas.List.Folds.{list_any-append}
 use Rattle.bdb_val.specs.Settling.{RowChange, mark_in, next_mark, same_mark, change_at, has_mark, fresh_change, are_apart, are_changes_apart}
 use Rattle.bdb_val.specs.Laws.{SettlingIsApart}
@@ -122,15 +122,7 @@ settling_is_apart keys stored own from a b c =
     g3 = fresh_given keys stored own from own
 
     has_one : (tid : ℕ) → changed one tid ≡ true → is_some (mark_in stored tid) ≡ true
-    has_one tid k = mark_is_some stored tid ∙ true_from (list_any (λ y. nat_eq y.tid tid) stored) (λ e. false≢true (sym (changed_in (change_at keys stored own from) (λ _. false) g1 stored tid e) ∙ k))
-      where
-        true_from : (b : Bool) → (b ≡ false → ⊥) → b ≡ true
-        true_from true h = refl
-        true_from false h = absurd (h refl)
+    has_one tid k = mark_is_some stored tid ∙ true_from_ne_false (list_any (λ y. nat_eq y.tid tid) stored) (λ e. false≢true (sym (changed_in (change_at keys stored own from) (λ _. false) g1 stored tid e) ∙ k))
 
     has_two : (tid : ℕ) → changed two tid ≡ true → is_some (mark_in own tid) ≡ true
-    has_two tid k = mark_is_some own tid ∙ true_from (list_any (λ y. nat_eq y.tid tid) own) (λ e. false≢true (sym (changed_in (fresh_change keys stored own from []) (has_mark stored []) g2 own tid e) ∙ k))
-      where
-        true_from : (b : Bool) → (b ≡ false → ⊥) → b ≡ true
-        true_from true h = refl
-        true_from false h = absurd (h refl)
+    has_two tid k = mark_is_some own tid ∙ true_from_ne_false (list_any (λ y. nat_eq y.tid tid) own) (λ e. false≢true (sym (changed_in (fresh_change keys stored own from []) (has_mark stored []) g2 own tid e) ∙ k))

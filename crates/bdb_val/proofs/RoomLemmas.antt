@@ -8,6 +8,7 @@ use Rattle.std.proofs.lemmas.Bool.{false≢true, cases_Bool, false_from_ne_true,
 use Rattle.bdb_base.specs.declared.kinds.Value.{Value}
 use Rattle.bdb_base.specs.Segments.{is_prefix}
 use Rattle.bdb_keep.specs.Tables.{Tables, bytes_cmp}
+use Rattle.bdb_keep.proofs.RowsLemmas.{same_place}
 use Rattle.bdb_key.specs.Bytes.{num_bytes}
 use Rattle.bdb_key.specs.Grammar.{IsNum}
 use Rattle.bdb_key.specs.Rows.{mark_bytes}
@@ -17,16 +18,13 @@ use Rattle.bdb_tables.specs.InUse.{ValKey, val_bytes, val_codec}
 use Rattle.bdb_tables.specs.Marks.{Mark}
 use Rattle.bdb_tables.specs.Spans.{AreUnder}
 use Rattle.bdb_tables.specs.Writes.{IsChange, with_change, with_changes}
-use Rattle.bdb_tables.proofs.Held.{same_place}
 use Rattle.bdb_tables.proofs.WriteLemmas.{get_after_change}
 use Rattle.bdb_tables.proofs.ListLemmas.{prefix_append}
 use Rattle.bdb_val.specs.Rooms.{AreHanded, AreRowsOf, AreSingle, HaveNone, IsNoted, IsRoomFor, unless_from}
 use Rattle.bdb_val.proofs.ReadLemmas.{world_of_group}
+use Rattle.bdb_val.proofs.RealLemmas.{tail_same}
 
 -- ---- the rows that are handed down
-
-tail_same : (n : ℕ) (j k : List ℕ) → n ∷ j ≡ n ∷ k → j ≡ k
-tail_same n j k e = cc
 
 module _ (rel : ℕ) (v : List Value) (wid m : ℕ) (n : IsNum m) (other : wid ≡ m → ⊥) where
   -- a change of another world's row

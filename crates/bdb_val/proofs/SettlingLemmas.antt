@@ -7,11 +7,13 @@ use Rattle.std.proofs.lemmas.List.Folds.{list_any-append}
 use Rattle.bdb_base.specs.declared.tuple.Tuple.{Tuple}
 use Rattle.bdb_base.specs.Same.{same_sign}
 use Rattle.bdb_base.specs.SameLemmas.{same_sign-Decides}
+use Rattle.bdb_base.proofs.AllLemmas.{all_append}
 use Rattle.bdb_tables.specs.Marks.{Mark, sign_of, explicit_of}
 use Rattle.bdb_val.specs.Settled.{settled_mark}
 use Rattle.bdb_val.specs.Settling.{RowChange, mark_in, barred_by, next_mark, same_mark, change_at, has_mark, fresh_change, settling, last_mark, AreNamed}
 use Rattle.bdb_val.specs.Laws.{SettlingIsRight, NoneSettlesTheSettled, SettlingIsReal}
 use Rattle.bdb_val.specs.declared.stored.Stored.{Stored}
+use Rattle.bdb_val.proofs.NextMarks.{one_tuple}
 
 beq_same : (a b : Bool) → beq a b ≡ true → a ≡ b
 beq_same true true e = refl
@@ -55,10 +57,6 @@ none_in xs tid e = none (mark_in xs tid) e
     none (Some m) e = absurd (true≢false e)
 
 -- ---- what holds of each change
-
-pub all_append : {X : Type 0} (P : X → Type 0) (xs ys : List X) → AllByRecursion P xs → AllByRecursion P ys → AllByRecursion P (xs ++ ys)
-all_append P [] ys a b = b
-all_append P (x ∷ xs) ys a b = (a.0, all_append P xs ys a.1 b)
 
 pub all_flat_map : {X Y : Type 0} (Q : X → Type 0) (P : Y → Type 0) (f : X → List Y) → ((x : X) → Q x → AllByRecursion P (f x)) → (xs : List X) → AllByRecursion Q xs → AllByRecursion P (flat_map f xs)
 all_flat_map Q P f h [] a = tt
@@ -118,16 +116,13 @@ last_of_one (x ∷ xs) tid m z a b = elim (cases_Bool (nat_eq x.0 tid)) [
     left (inl k) e = inl (ap (λ c. c || list_any (λ y. nat_eq y.0 tid) xs) (sym e) ∙ k)
     left (inr k) e = inr (cond-false (nat_eq x.0 tid) x.2 m e ∙ k)
 
-same_named : (tuple : ℕ → Option Tuple) (a b : ℕ) (t u : Tuple) → tuple a ≡ Some t → tuple b ≡ Some u → nat_eq a b ≡ true → t ≡ u
-same_named tuple a b t u p q e = let k : a ≡ b = eqb-true a b e in let l : tuple a ≡ tuple b = ap tuple k in cc
-
 -- all changes of one number put the row that its tuple is to have
 changes_at_one : (keys : ℕ → ℕ) (tuple : ℕ → Option Tuple) (stored own from : List Stored) → AreNamed tuple stored → AreNamed tuple own → AreNamed tuple from
     → (tid : ℕ) (t : Tuple) → tuple tid ≡ Some t → AllByRecursion (λ x. nat_eq x.0 tid ≡ true → x.2 ≡ next_mark keys own from tid t) (settling keys stored own from)
 changes_at_one keys tuple stored own from a b c tid t e =
     settling_each keys stored own from (λ x. tuple x.tid ≡ Some x.tuple) (λ x. nat_eq x.0 tid ≡ true → x.2 ≡ next_mark keys own from tid t)
     (λ x n. change_each keys stored own from (λ y. nat_eq y.0 tid ≡ true → y.2 ≡ next_mark keys own from tid t) x
-    (λ _ k. ap (λ i. next_mark keys own from i x.tuple) (eqb-true x.tid tid k) ∙ ap (λ u. next_mark keys own from tid u) (same_named tuple x.tid tid x.tuple t n e k)))
+    (λ _ k. ap (λ i. next_mark keys own from i x.tuple) (eqb-true x.tid tid k) ∙ ap (λ u. next_mark keys own from tid u) (one_tuple tuple x.tid tid x.tuple t n e k)))
     a b c
 
 -- a row that is to be another is changed
@@ -136,7 +131,7 @@ change_is_there : (keys : ℕ → ℕ) (tuple : ℕ → Option Tuple) (stored ow
     → (x : Stored) → tuple x.tid ≡ Some x.tuple → nat_eq x.tid tid ≡ true → list_any (λ y. nat_eq y.0 tid) (change_at keys stored own from x) ≡ true
 change_is_there keys tuple stored own from tid t e d x n k =
     let i : x.tid ≡ tid = eqb-true x.tid tid k in
-    let u : x.tuple ≡ t = same_named tuple x.tid tid x.tuple t n e k in
+    let u : x.tuple ≡ t = one_tuple tuple x.tid tid x.tuple t n e k in
     let m = next_mark keys own from x.tid x.tuple in
     let b : same_mark (mark_in stored x.tid) m ≡ false = ap (λ j. same_mark (mark_in stored j) (next_mark keys own from j x.tuple)) i
     ∙ ap (λ v. same_mark (mark_in stored tid) (next_mark keys own from tid v)) u ∙ d in

@@ -1,9 +1,10 @@
 use Rattle.std.proofs.Common.{◌≡◌, sym, subst}
 use Rattle.std.specs.Prelude.{IfSome}
 use Rattle.std.specs.Ordering.{nat_cmp}
+use Rattle.bdb_base.proofs.Numbers.{same_number}
 use Rattle.bdb_exec.specs.Seen.{sight_of}
 use Rattle.bdb_exec.proofs.LengthLemmas.{length_is}
-use Rattle.bdb_exec.proofs.MemoLemmas.{after_insert, nat_tied}
+use Rattle.bdb_exec.proofs.MemoLemmas.{after_insert}
 use Rattle.bdb_exec.proofs.looking.key_length_of.Goals as goal
 
 pub returns-in-Some-clause-length : goal.returns-in-Some-clause-length
@@ -23,6 +24,6 @@ returns-in-Ok-insert-clause-memo g c =
       h.2,
       h.3,
       h.4,
-      after_insert nat_cmp c.args.memo.now.lengths c.insert.new.self c.args.rel c.in-Ok.n (λ rel n. n ≡ (sight_of t).keys rel) (nat_tied c.args.rel)
+      after_insert nat_cmp c.args.memo.now.lengths c.insert.new.self c.args.rel c.in-Ok.n (λ rel n. n ≡ (sight_of t).keys rel) (same_number c.args.rel)
           (length_is t c.args.rel c.in-Ok.n c.ranges.rel.fits c.in-Ok.ensures.row) c.in-Ok-insert.ensures.updates h.5,
     )
