@@ -25,7 +25,8 @@ use Rattle.bdb_key.specs.Rows.{IsTupleRow}
 use Rattle.bdb_key.proofs.Readings.{num_form}
 use Rattle.bdb_tables.specs.InUse.{val_bytes}
 use Rattle.bdb_tables.specs.Rows.{AreKeyLengths}
-use Rattle.bdb_tables.specs.Beginnings.{is_written, led_by}
+use Rattle.bdb_base.specs.Bases.{is_written}
+use Rattle.bdb_tables.specs.Beginnings.{led_by}
 use Rattle.bdb_tables.proofs.BeginningLemmas.{values_part}
 use Rattle.bdb_tables.proofs.ListLemmas.{prefix_append, prefix_rest}
 use Rattle.bdb_val.specs.Reads.{IsSpan}

@@ -21,7 +21,7 @@ use Rattle.bdb_tables.specs.Grammar.{InGrammar}
 use Rattle.bdb_tables.specs.InUse.{user_codec, tuple_codec, tuple_ix_codec, edge_codec}
 use Rattle.bdb_tables.specs.InUseLaws.{number_rows_are_one}
 use Rattle.bdb_tables.specs.Spans.{AreUnder, IsUnder}
-use Rattle.bdb_tables.specs.Beginnings.{is_written}
+use Rattle.bdb_base.specs.Bases.{is_written}
 use Rattle.bdb_tables.proofs.Held.{some_same, none_some}
 use Rattle.bdb_exec.specs.Readable.{CanBeRun}
 use Rattle.bdb_exec.specs.Rows.{IsNumberOf, tuple_of_slot}
