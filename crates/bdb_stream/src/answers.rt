@@ -12,6 +12,7 @@ ghost use Rattle.bdb_undo.specs.Timelines.{Timeline};
 ghost use Rattle.bdb_stream.specs.Carried.{by_session, session_in_order};
 ghost use Rattle.bdb_stream.specs.Handled.{IsAnswer};
 ghost use Rattle.bdb_stream.specs.Streams.{Streams};
+ghost use Rattle.bdb_stream.specs.Told.{TellsReply};
 
 use crate::error::RunError;
 use crate::handler::Handler;
@@ -19,7 +20,7 @@ use crate::stream::carry_out;
 use bdb_io::{Failed, Sink, Source};
 use bdb_keep::Keeper;
 use bdb_lex::{Piece, Rest};
-use bdb_session::{Event, Session, StopError};
+use bdb_session::{Event, Reply, Session, StopError};
 use std::alloc::Global;
 
 /// Carries out the script that a source gives, each command as soon as the bytes are read in which it ends. Ok tells
@@ -126,14 +127,10 @@ fn answer<O: Sink, K: Keeper>(
     ensures others { OnErr result ((IsErrOf result RunError.Source → ⊥)
         × (IsErrOf result RunError.Large → ⊥)) }
 {
-    let reply = match session.answer(keeper, event) {
-        Ok(reply) => reply,
-        Err(StopError::Fault) => return Err(RunError::Keeper),
-        Err(StopError::Memory) => return Err(RunError::Memory),
-    };
-    match write_reply(out, reply.text.as_slice()) {
-        Ok(()) => Ok(reply.accepted),
-        Err(_) => Err(RunError::Sink),
+    let reply = session.answer(keeper, event);
+    match tell(out, reply) {
+        Ok(accepted) => Ok(accepted),
+        Err(stop) => Err(stop),
     }
 }
 
@@ -159,7 +156,23 @@ fn answer_command<O: Sink, K: Keeper>(
     ensures others { OnErr result ((IsErrOf result RunError.Source → ⊥)
         × (IsErrOf result RunError.Large → ⊥)) }
 {
-    let reply = match session.apply(keeper, bytes) {
+    let reply = session.apply(keeper, bytes);
+    match tell(out, reply) {
+        Ok(accepted) => Ok(accepted),
+        Err(stop) => Err(stop),
+    }
+}
+
+/// Writes what a session answered, and tells whether that was accepted.
+fn tell<O: Sink>(out: &mut O, reply: Result<Reply, StopError>) -> Result<bool, RunError>
+    ensures told { TellsReply reply (O.written out.old) (O.written out.new) result }
+    ensures keeper { IsErrOf result RunError.Keeper → IsErrOf reply StopError.Fault }
+    ensures later { O.faults out.old ≤ O.faults out.new }
+    ensures sink { IsErrOf result RunError.Sink → Rose (O.faults out.old) (O.faults out.new) }
+    ensures others { OnErr result ((IsErrOf result RunError.Source → ⊥)
+        × (IsErrOf result RunError.Large → ⊥)) }
+{
+    let reply = match reply {
         Ok(reply) => reply,
         Err(StopError::Fault) => return Err(RunError::Keeper),
         Err(StopError::Memory) => return Err(RunError::Memory),
