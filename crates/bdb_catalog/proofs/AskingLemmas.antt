@@ -24,8 +24,9 @@ use Rattle.bdb_key.proofs.Readings.{num_form}
 use Rattle.bdb_key.proofs.Compared.{take_plain, values_append}
 use Rattle.bdb_tables.specs.InUse.{val_bytes}
 use Rattle.bdb_tables.specs.Rows.{AreKeyLengths}
-use Rattle.bdb_tables.specs.Beginnings.{is_written, led_by}
+use Rattle.bdb_tables.specs.Beginnings.{led_by}
 use Rattle.bdb_tables.proofs.BeginningLemmas.{values_part, all_written}
+use Rattle.bdb_base.specs.Bases.{is_written}
 use Rattle.bdb_tables.proofs.ListLemmas.{prefix_append, prefix_rest}
 use Rattle.bdb_val.specs.Reads.{IsSpan}
 use Rattle.bdb_val.specs.Settling.{row_key}

@@ -3,7 +3,7 @@ use Rattle.std.proofs.Common.{◌≡◌, ◌∙◌, ◌⊎◌, ℕ, ◌+◌, ◌
 use Rattle.std.specs.List.{list_all, list_any, slice_get, AllByRecursion}
 use Rattle.std.specs.Ordering.{is_eq}
 use Rattle.std.proofs.lemmas.Bool.{cases_Bool, and_parts, and_from, or_cases, or_left, or_right, false≢true}
-use Rattle.bdb_base.specs.Bases.{Contents, IsValid, fits_definition, fits_relation, is_user, is_valid_relation, key_at, key_lengths, stands}
+use Rattle.bdb_base.specs.Bases.{Contents, IsValid, fits_definition, fits_relation, is_user, is_valid_relation, key_at, key_lengths, stands, is_written}
 use Rattle.bdb_base.specs.Causes.{RoseBy}
 use Rattle.bdb_base.specs.Changes.{is_taken, taken_by}
 use Rattle.bdb_base.specs.Conditions.{meets}
@@ -38,7 +38,6 @@ use Rattle.bdb_tables.specs.Names.{Names, path_of, number_of, is_named}
 use Rattle.bdb_tables.specs.Rows.{Tuples, AreKeyLengths}
 use Rattle.bdb_tables.specs.Spans.{AreUnder}
 use Rattle.bdb_tables.specs.Stored.{StoredAs}
-use Rattle.bdb_tables.specs.Beginnings.{is_written}
 use Rattle.bdb_tables.proofs.Fitting.{relation_row}
 use Rattle.bdb_update.proofs.KeyLemmas.{lengths_fit}
 use Rattle.bdb_update.proofs.OneStored.{consistent}

@@ -30,7 +30,7 @@ use Rattle.bdb_tables.specs.InUseLaws.{vals_are_one, mark_rows_are_one}
 use Rattle.bdb_tables.specs.Marks.{Mark}
 use Rattle.bdb_tables.specs.Names.{leads_to}
 use Rattle.bdb_tables.specs.Spans.{AreUnder, IsUnder}
-use Rattle.bdb_tables.specs.Beginnings.{is_written}
+use Rattle.bdb_base.specs.Bases.{is_written}
 use Rattle.bdb_tables.proofs.PartLemmas.{vals_form}
 use Rattle.bdb_tables.proofs.BeginningLemmas.{values_part, all_written}
 use Rattle.bdb_tables.proofs.ListLemmas.{prefix_append, prefix_rest}

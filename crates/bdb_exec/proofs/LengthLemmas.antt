@@ -4,7 +4,7 @@ use Rattle.std.specs.FinMap as tables
 use Rattle.std.specs.List.{list_all}
 use Rattle.std.proofs.lemmas.Bool.{cond-true}
 use Rattle.std.proofs.lemmas.Bool.Decides.{nat_tests}
-use Rattle.bdb_base.specs.Bases.{key_at}
+use Rattle.bdb_base.specs.Bases.{key_at, is_written}
 use Rattle.bdb_base.specs.Clash.{key_of}
 use Rattle.bdb_base.specs.declared.kinds.RelDef.{RelDef}
 use Rattle.bdb_base.specs.declared.kinds.Value.{Value}
@@ -16,7 +16,6 @@ use Rattle.bdb_key.proofs.Compared.{take_plain}
 use Rattle.bdb_tables.specs.Codec.{HasAt, TableFits, place}
 use Rattle.bdb_tables.specs.InUse.{HaveKeyTexts, rel_codec}
 use Rattle.bdb_tables.specs.Lengths.{HasKeyAt}
-use Rattle.bdb_tables.specs.Beginnings.{is_written}
 use Rattle.bdb_tables.proofs.Held.{rel_fits}
 use Rattle.bdb_exec.specs.Readable.{CanBeRun}
 use Rattle.bdb_exec.specs.Seen.{length_in, sight_of}

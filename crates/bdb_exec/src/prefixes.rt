@@ -5,13 +5,14 @@ ghost use Rattle.bdb_key.specs.Bytes.{num_bytes};
 ghost use Rattle.bdb_key.specs.Grammar.{AreKeyVals};
 ghost use Rattle.bdb_tables.specs.InUse.{HaveKeyTexts};
 ghost use Rattle.bdb_tables.specs.GroupMarks.{group_bytes};
-ghost use Rattle.bdb_tables.specs.Beginnings.{HasPutValues, is_written};
+ghost use Rattle.bdb_base.specs.Bases.{is_written};
+ghost use Rattle.bdb_tables.specs.Beginnings.{HasPutValues};
 ghost use Rattle.bdb_exec.specs.Keys.{values_behind};
 ghost use Rattle.bdb_exec.specs.Rows.{world_prefix};
 
 use crate::keys::value_behind;
 use crate::shared::Shared;
-use bdb_base::{Value, is_plain};
+use bdb_base::{Value, is_written};
 use bdb_key::{put_num, put_value};
 use bdb_plan::Step;
 use bdb_tables::put_key_vals;
@@ -103,14 +104,4 @@ pub fn are_written(values: &[Value]) -> bool
     ensures { result ≡ list_all is_written values.now }
 {
     values.iter().all(|value| is_written(value))
-}
-
-// Whether a text is one that keys may have.
-fn is_written(value: &Value) -> bool
-    ensures { result ≡ is_written value.now }
-{
-    match value {
-        Value::Int(_) => true,
-        Value::Text(text) => is_plain(text),
-    }
 }

@@ -16,12 +16,11 @@ use crate::memo::Memo;
 use crate::reading::choices;
 use crate::settling::settle;
 use crate::shared::Shared;
-use crate::slots::known_row;
 use crate::state::State;
 use bdb_base::{List, Ref};
 use bdb_keep::Keeper;
 use bdb_plan::Step;
-use bdb_queries::Found;
+use bdb_queries::{Found, known_row};
 use bdb_tables::TabError;
 use std::alloc::{AllocError, Global};
 

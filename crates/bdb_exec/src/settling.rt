@@ -14,11 +14,11 @@ ghost use Rattle.bdb_exec.specs.Seen.{sight_of};
 use crate::looking::{denies, edge};
 use crate::memo::Memo;
 use crate::shared::Shared;
-use crate::slots::{must_hold, uid_of};
 use crate::state::State;
 use bdb_base::{Tuple, Who};
 use bdb_keep::Keeper;
 use bdb_plan::Step;
+use bdb_queries::{must_hold, uid_of};
 use bdb_tables::TabError;
 use std::alloc::{AllocError, Global};
 

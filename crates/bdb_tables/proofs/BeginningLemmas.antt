@@ -8,7 +8,8 @@ use Rattle.bdb_base.specs.declared.kinds.Value.TheVariants.{Int, Text}
 use Rattle.bdb_key.specs.Bytes.{value_bytes, values_bytes}
 use Rattle.bdb_key.specs.Grammar.{ArePlain, IsPlainValue, IsWhole}
 use Rattle.bdb_key.proofs.Readings.{value_form}
-use Rattle.bdb_tables.specs.Beginnings.{HasPutValues, is_written}
+use Rattle.bdb_base.specs.Bases.{is_written}
+use Rattle.bdb_tables.specs.Beginnings.{HasPutValues}
 
 plain_value : (v : Value) → is_written v ≡ true → IsWhole v → IsPlainValue v
 plain_value (Int m) w h = h

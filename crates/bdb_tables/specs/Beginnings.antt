@@ -1,9 +1,8 @@
 -- Values that the keys of rows are to begin with.
 use Rattle.std.specs.Prelude.{◌≡◌, ℕ, Bool, true, false, List, [], ◌∷◌, ◌++◌, Option, None, Some}
 use Rattle.std.specs.List.{list_all}
-use Rattle.bdb_base.specs.Bases.{is_plain}
+use Rattle.bdb_base.specs.Bases.{is_written}
 use Rattle.bdb_base.specs.declared.kinds.Value.{Value}
-use Rattle.bdb_base.specs.declared.kinds.Value.TheVariants.{Int, Text}
 use Rattle.bdb_key.specs.Bytes.{values_bytes}
 use Rattle.bdb_key.specs.Grammar.{ArePlain}
 
@@ -11,11 +10,6 @@ use Rattle.bdb_key.specs.Grammar.{ArePlain}
 abbrev pub led_by : Option Value → List Value → List Value
 led_by None vs = []
 led_by (Some v) vs = v ∷ vs
-
--- a value is one that tuples may have: a text has to be plain
-abbrev pub is_written : Value → Bool
-is_written (Int n) = true
-is_written (Text t) = is_plain t
 
 -- The bytes of plain values were appended, unless one of them is a value that no tuple has.
 abbrev pub HasPutValues : Bool → List ℕ → List ℕ → List Value → Type 0

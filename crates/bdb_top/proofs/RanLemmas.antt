@@ -1,6 +1,6 @@
 -- How a run ends, by its status.
 use Rattle.std.proofs.Common.{◌≡◌, ◌≢◌, ◌∙◌, ℕ, ◌-◌, ◌^◌, ◌<◌, ◌≤◌, ◌⊎◌, inl, inr, zero, suc, Bool, true, false, List, [], Option, Some, None, Result, Ok, Err, IfSome, IsErrOf, OnOk, length, refl, ap, sym, subst, arith}
-use Rattle.std.specs.Io.KnownBytes.{Appends, IsAtEnd}
+use Rattle.std.specs.Io.KnownBytes.{Appends}
 use Rattle.std.proofs.lemmas.List.{append-nil}
 use Rattle.std.proofs.KnownBytes.{Appends-nil}
 use Rattle.bdb_base.specs.Bases.{Contents}
@@ -211,7 +211,7 @@ not_seven n (Err Memory) is e = omega arith
 not_seven n (Err Large) is e = omega arith
 
 -- 0 and 1 come of an Ok alone
-low_is_ok : {X : Type 0} (n : ℕ) (r : Result Bool RunError) → n ≡ status_of r → n ≤ 1 → OnOk r X → X
+pub low_is_ok : {X : Type 0} (n : ℕ) (r : Result Bool RunError) → n ≡ status_of r → n ≤ 1 → OnOk r X → X
 low_is_ok n (Ok accepted) is low h = h
 low_is_ok n (Err Source) is low h = absurd (omega arith)
 low_is_ok n (Err Sink) is low h = absurd (omega arith)
@@ -229,10 +229,6 @@ large_by n (Err Keeper) is e = absurd (omega arith)
 large_by n (Err Memory) is e = absurd (omega arith)
 large_by n (Err Large) is e = refl
 
-pub taken_by : (n : ℕ) (r : Result Bool RunError) (before left : Option (List ℕ)) → n ≡ status_of r → OnOk r (IsAtEnd left) → OnOk r (IfSome before (λ text. length text ≤ longest_script))
-    → n ≤ 1 → IsAtEnd left × IfSome before (λ text. length text ≤ longest_script)
-taken_by n r before left is end short low = (low_is_ok n r is low end, low_is_ok n r is low short)
-
 too_long : {n : ℕ} → longest_script < n → n ≤ longest_script → ⊥
 too_long h k = omega (arith, h, k)
 
@@ -242,10 +238,6 @@ but_for_large n r is h low = h (λ e. low (is ∙ ap status_of e))
 
 pub of_large : {X : Type 0} (n : ℕ) (r : Result Bool RunError) → n ≡ status_of r → (IsErrOf r Large → X) → n ≡ 8 → X
 of_large n r is h e = h (large_by n r is e)
-
--- a source that isn't called gives nothing
-pub gives_none : (a : ℕ) → (k : ℕ) × (k ≤ longest_script) × Rises k a a
-gives_none a = (0, omega arith, λ _. omega arith)
 
 -- a run over a base and a script that fit, with no fault, comes to its end or wants memory
 pub finishes_by : (n : ℕ) (before : Option (List ℕ)) (text : List ℕ) → n ≤ 8 → n ≢ 2 → n ≢ 3 → n ≢ 4 → n ≢ 5 → n ≢ 7

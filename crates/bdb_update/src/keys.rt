@@ -10,7 +10,7 @@ ghost use Rattle.bdb_tables.specs.Reading.{OnlyReads};
 ghost use Rattle.bdb_update.specs.Keys.{AreRelations};
 
 use bdb_base::{List, RelDef, Sign, Tuple, Value, clash, key_length, same_key};
-use bdb_keep::{KeepError, Keeper};
+use bdb_keep::Keeper;
 use bdb_tables::{RelTab, TabError, get, put_val_key, stored_key_length};
 use std::alloc::{AllocError, Global};
 
@@ -92,14 +92,4 @@ pub fn row_key(
     let mut bytes = Vec::with_capacity(alloc, KEY_ROOM)?;
     put_val_key(&mut bytes, wid, rel, key, tid)?;
     Ok(bytes)
-}
-
-/// A keeper's error as a table's.
-pub fn table_error(error: KeepError) -> TabError
-    ensures { result ≡ TabError.Fault → error ≡ KeepError.Fault }
-{
-    match error {
-        KeepError::Fault => TabError::Fault,
-        KeepError::Memory => TabError::Memory,
-    }
 }

@@ -5,7 +5,8 @@ use Rattle.bdb_key.specs.Bytes.{num_bytes, values_bytes}
 use Rattle.bdb_key.specs.Grammar.{ArePlain}
 use Rattle.bdb_tables.specs.Grammar.{InGrammar}
 use Rattle.bdb_tables.specs.Lengths.{IsKeyLength}
-use Rattle.bdb_tables.specs.Beginnings.{HasPutValues, is_written}
+use Rattle.bdb_base.specs.Bases.{is_written}
+use Rattle.bdb_tables.specs.Beginnings.{HasPutValues}
 use Rattle.bdb_val.specs.Reads.{HaveTuples}
 use Rattle.bdb_worlds.specs.Bounds.{RisesWithin}
 use Rattle.bdb_worlds.specs.Holding.{HoldSome}

@@ -7,7 +7,7 @@ use Rattle.bdb_key.specs.Grammar.{AreKeyVals, IsNum}
 use Rattle.bdb_tables.specs.Codec.{TableFits}
 use Rattle.bdb_tables.specs.GroupMarks.{AreNumbered, group_bytes, numbered}
 use Rattle.bdb_tables.specs.InUse.{val_codec}
-use Rattle.bdb_tables.specs.Beginnings.{is_written}
+use Rattle.bdb_base.specs.Bases.{is_written}
 use Rattle.bdb_exec.specs.Keys.{rows_of_key}
 use Rattle.bdb_exec.specs.Rows.{mark_denies}
 use Rattle.bdb_exec.specs.Seen.{sight_of}

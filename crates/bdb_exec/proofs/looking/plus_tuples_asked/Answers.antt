@@ -4,7 +4,8 @@ use Rattle.bdb_key.specs.Bytes.{num_bytes, values_bytes}
 use Rattle.bdb_plan.specs.Running.{plus_tuples}
 use Rattle.bdb_exec.specs.Keys.{values_behind}
 use Rattle.bdb_exec.specs.Rows.{key_prefix, world_prefix}
-use Rattle.bdb_tables.specs.Beginnings.{HasPutValues, is_written}
+use Rattle.bdb_base.specs.Bases.{is_written}
+use Rattle.bdb_tables.specs.Beginnings.{HasPutValues}
 use Rattle.bdb_exec.specs.Seen.{sight_of, signed_under}
 use Rattle.bdb_exec.proofs.DenyLemmas.{key_tuples, key_rows, unwritten}
 use Rattle.bdb_exec.proofs.PrefixLemmas.{few_asked}
