@@ -24,14 +24,14 @@ use Rattle.bdb_key.proofs.Readings.{num_form}
 use Rattle.bdb_key.proofs.Compared.{take_plain, values_append}
 use Rattle.bdb_tables.specs.InUse.{val_bytes}
 use Rattle.bdb_tables.specs.Rows.{AreKeyLengths}
-use Rattle.bdb_tables.specs.Beginnings.{led_by}
-use Rattle.bdb_tables.proofs.BeginningLemmas.{values_part, all_written}
+use Rattle.bdb_tables.specs.Prefixes.{led_by}
+use Rattle.bdb_tables.proofs.PrefixLemmas.{values_part, all_written}
 use Rattle.bdb_base.specs.Bases.{is_written}
 use Rattle.bdb_tables.proofs.ListLemmas.{prefix_append, prefix_rest}
 use Rattle.bdb_val.specs.Reads.{IsSpan}
 use Rattle.bdb_val.specs.Settling.{row_key}
 use Rattle.bdb_val.proofs.ReadLemmas.{key_of_fits}
-use Rattle.bdb_catalog.specs.Taking.{asks_for, beginning, is_asked, literal_of, starts_with, value_asked, value_of_test, values_asked, values_from}
+use Rattle.bdb_catalog.specs.Taking.{asks_for, key_prefix, is_asked, literal_of, starts_with, value_asked, value_of_test, values_asked, values_from}
 
 -- ---- what a tuple has that meets tests
 
@@ -128,19 +128,19 @@ none_meets conds n u g out m =
 
 -- a key that has so many values and starts with some begins with their number and these
 module _ (wid rel n : ℕ) (vs : List Value) where
-  begins_with : (rest : List Value) (tid : ℕ) → length (vs ++ rest) ≡ n → is_prefix (beginning n wid rel vs) (val_bytes (wid, rel, vs ++ rest, tid)) ≡ true
+  begins_with : (rest : List Value) (tid : ℕ) → length (vs ++ rest) ≡ n → is_prefix (key_prefix n wid rel vs) (val_bytes (wid, rel, vs ++ rest, tid)) ≡ true
   begins_with rest tid many =
       let m = length (vs ++ rest) in
-      ap (λ (k : ℕ). is_prefix (beginning k wid rel vs) (val_bytes (wid, rel, vs ++ rest, tid))) (sym many)
-      ∙ ap (λ (tail : List ℕ). is_prefix (beginning m wid rel vs) (num_bytes wid ++ num_bytes rel ++ num_bytes m ++ tail))
+      ap (λ (k : ℕ). is_prefix (key_prefix k wid rel vs) (val_bytes (wid, rel, vs ++ rest, tid))) (sym many)
+      ∙ ap (λ (tail : List ℕ). is_prefix (key_prefix m wid rel vs) (num_bytes wid ++ num_bytes rel ++ num_bytes m ++ tail))
       (ap (λ (r : List ℕ). r ++ num_bytes tid) (values_append vs rest) ∙ append_assoc (values_bytes vs) (values_bytes rest) (num_bytes tid))
-      ∙ prefix_append (beginning m wid rel vs) (values_bytes rest ++ num_bytes tid)
+      ∙ prefix_append (key_prefix m wid rel vs) (values_bytes rest ++ num_bytes tid)
 
-  front_begins : (key : List Value) (tid : ℕ) → starts_with n vs key ≡ true → is_prefix (beginning n wid rel vs) (val_bytes (wid, rel, key, tid)) ≡ true
+  front_begins : (key : List Value) (tid : ℕ) → starts_with n vs key ≡ true → is_prefix (key_prefix n wid rel vs) (val_bytes (wid, rel, key, tid)) ≡ true
   front_begins key tid e =
       let p = started n vs key e in
       let split : key ≡ vs ++ drop (length vs) key = sym (take-append-drop (length vs) key) ∙ ap (λ (xs : List Value). xs ++ drop (length vs) key) p.1 in
-      ap (λ (xs : List Value). is_prefix (beginning n wid rel vs) (val_bytes (wid, rel, xs, tid))) split ∙ begins_with (drop (length vs) key) tid (sym (ap length split) ∙ p.0)
+      ap (λ (xs : List Value). is_prefix (key_prefix n wid rel vs) (val_bytes (wid, rel, xs, tid))) split ∙ begins_with (drop (length vs) key) tid (sym (ap length split) ∙ p.0)
 
   -- and the other way round
   front_starts : (key : List Value) (tid : ℕ) (rest : List ℕ) → length vs ≤ n → IsNum n → ArePlain vs → AreKeyVals key → vals_bytes key ++ num_bytes tid ≡ num_bytes n ++ (values_bytes vs ++ rest)
@@ -151,17 +151,17 @@ module _ (wid rel n : ℕ) (vs : List Value) where
 
 -- the keys of a world's rows whose tuples are asked for are those that begin so
 pub asked_span : (keys : ℕ → ℕ) → AreKeyLengths keys → (wid rel : ℕ) (vs : List Value) → IsNum wid → IsNum rel → length vs ≤ keys rel → ArePlain vs
-    → IsSpan keys wid (is_asked keys rel vs) (beginning (keys rel) wid rel vs)
+    → IsSpan keys wid (is_asked keys rel vs) (key_prefix (keys rel) wid rel vs)
 asked_span keys lengths wid rel vs w r few p = record {
   world = λ k f e.
-      let s = prefix_rest (beginning (keys rel) wid rel vs) (val_bytes k) e in
+      let s = prefix_rest (key_prefix (keys rel) wid rel vs) (val_bytes k) e in
       (num_form k.0 wid (num_bytes k.1 ++ vals_bytes k.2 ++ num_bytes k.3) (num_bytes rel ++ num_bytes (keys rel) ++ (values_bytes vs ++ s.0)) f.world w s.1).0;
   begins = λ tid u e.
       let k = and_parts (nat_eq u.rel rel) (starts_with (keys rel) vs (key_of keys u)) e in
-      ap (λ (x : ℕ). is_prefix (beginning (keys rel) wid rel vs) (val_bytes (wid, x, key_of keys u, tid))) (eqb-true u.rel rel k.0)
+      ap (λ (x : ℕ). is_prefix (key_prefix (keys rel) wid rel vs) (val_bytes (wid, x, key_of keys u, tid))) (eqb-true u.rel rel k.0)
       ∙ front_begins wid rel (keys rel) vs (key_of keys u) tid k.1;
   inside = λ tid u g e.
-      let s = prefix_rest (beginning (keys rel) wid rel vs) (val_bytes (row_key keys wid tid u)) e in
+      let s = prefix_rest (key_prefix (keys rel) wid rel vs) (val_bytes (row_key keys wid tid u)) e in
       let one = num_form wid wid (num_bytes u.rel ++ vals_bytes (key_of keys u) ++ num_bytes tid) (num_bytes rel ++ num_bytes (keys rel) ++ (values_bytes vs ++ s.0)) w w s.1 in
       let two = num_form u.rel rel (vals_bytes (key_of keys u) ++ num_bytes tid) (num_bytes (keys rel) ++ (values_bytes vs ++ s.0)) g.rel r one.1 in
       and_from (nat_eq u.rel rel) (starts_with (keys rel) vs (key_of keys u)) (eq-eqb u.rel rel two.0)

@@ -46,7 +46,7 @@ use Rattle.bdb_val.specs.Reads.{IsSpan}
 use Rattle.bdb_worlds.specs.Bounds.{RisesWithin}
 use Rattle.bdb_catalog.specs.Bases.{HasUsers}
 use Rattle.bdb_catalog.specs.Showing.{FindsState, IsStateOf}
-use Rattle.bdb_catalog.specs.Taking.{AreTuplesRead, AreTuplesOf, beginning, is_asked, is_said, rows_asked, rows_said, statements_of, values_asked}
+use Rattle.bdb_catalog.specs.Taking.{AreTuplesRead, AreTuplesOf, key_prefix, is_asked, is_said, rows_asked, rows_said, statements_of, values_asked}
 use Rattle.bdb_catalog.proofs.AskingLemmas.{meets_asked, asked_rel, asked_span, few_asked, none_meets}
 use Rattle.bdb_catalog.proofs.RowLemmas.{tuples_are_stated, stated_are_read, rows_within, tuples_within, as_many}
 use Rattle.bdb_catalog.proofs.ShowingLemmas.{nothing_explicit}
@@ -257,7 +257,7 @@ module _ (t : Tables) (w : List ℕ) (wid : ℕ) (own : Bool) (state : FindsStat
       none u x r m = absurd (none_meets conds n u (stated_row u x) out m)
 
   module _ (yes : own ≡ true) (nr : IsNum rel) (n : ℕ) (long : IsKeyLength t rel n) (old new : Seen) (same : old.kept ≡ t) (us : List Tuple)
-      (plain : ArePlain (values_asked conds n)) (read : AreTuplesRead old new (beginning n wid rel (values_asked conds n)) s us) where
+      (plain : ArePlain (values_asked conds n)) (read : AreTuplesRead old new (key_prefix n wid rel (values_asked conds n)) s us) where
     lengths : AreKeyLengths (keys_of b)
     lengths = lengths_fit t b.catalog.rels stored.rels
 
@@ -267,8 +267,8 @@ module _ (t : Tables) (w : List ℕ) (wid : ℕ) (own : Bool) (state : FindsStat
     are_plain : ArePlain vs
     are_plain = subst (λ k. ArePlain (values_asked conds k)) (long b.catalog.rels stored.rels) plain
 
-    was_read : AreTuplesRead old new (beginning (keys_of b rel) wid rel vs) s us
-    was_read = subst (λ k. AreTuplesRead old new (beginning k wid rel (values_asked conds k)) s us) (long b.catalog.rels stored.rels) read
+    was_read : AreTuplesRead old new (key_prefix (keys_of b rel) wid rel vs) s us
+    was_read = subst (λ k. AreTuplesRead old new (key_prefix k wid rel (values_asked conds k)) s us) (long b.catalog.rels stored.rels) read
 
     number : number_of ns w ≡ Some wid
     number = ap (number_of ns) (sym (deepest_of_member (is_named ns) w (sym is.own ∙ yes))) ∙ is.number
@@ -279,11 +279,11 @@ module _ (t : Tables) (w : List ℕ) (wid : ℕ) (own : Bool) (state : FindsStat
     small : IsNum wid
     small = stored.states.names.sized w wid number
 
-    span : IsSpan (keys_of b) wid (is_asked (keys_of b) rel vs) (beginning (keys_of b rel) wid rel vs)
+    span : IsSpan (keys_of b) wid (is_asked (keys_of b) rel vs) (key_prefix (keys_of b rel) wid rel vs)
     span = asked_span (keys_of b) lengths wid rel vs small nr (few_asked conds (keys_of b rel)) are_plain
 
-    under : AreUnder val_codec t (beginning (keys_of b rel) wid rel vs) was_read.rows
-    under = subst (λ u. AreUnder val_codec u (beginning (keys_of b rel) wid rel vs) was_read.rows) same was_read.under
+    under : AreUnder val_codec t (key_prefix (keys_of b rel) wid rel vs) was_read.rows
+    under = subst (λ u. AreUnder val_codec u (key_prefix (keys_of b rel) wid rel vs) was_read.rows) same was_read.under
 
     told : AreTuplesOf t (filter (is_said s) was_read.rows) us
     told = subst (λ u. AreTuplesOf u (filter (is_said s) was_read.rows) us) same was_read.told
@@ -297,19 +297,19 @@ module _ (t : Tables) (w : List ℕ) (wid : ℕ) (own : Bool) (state : FindsStat
     read_are_taken =
         statements_are_taken b.stmts w s rel conds us
         (of_rel us (tuples_are_stated (keys_of b) b.stmts ns ts t lengths (consistent b has.base.valid) stored.tuples stored.rows wid small w path s (is_asked (keys_of b) rel vs)
-        (beginning (keys_of b rel) wid rel vs) span was_read.rows us under told))
+        (key_prefix (keys_of b rel) wid rel vs) span was_read.rows us under told))
         (λ u x r m. stated_are_read (keys_of b) b.stmts ns ts t lengths (consistent b has.base.valid) stored.tuples stored.rows wid small w path s (is_asked (keys_of b) rel vs)
-        (beginning (keys_of b rel) wid rel vs) span was_read.rows us under told u x (meets_asked (keys_of b) conds rel u (whole_key b has.base.valid u (stated_fits b.catalog b.stmts u has.base.valid.stmts.belong (explicit_tuple b.stmts w u s x))) r m))
+        (key_prefix (keys_of b rel) wid rel vs) span was_read.rows us under told u x (meets_asked (keys_of b) conds rel u (whole_key b has.base.valid u (stated_fits b.catalog b.stmts u has.base.valid.stmts.belong (explicit_tuple b.stmts w u s x))) r m))
         has.base.valid.stmts.sorted
 
     few_rows : length was_read.rows ≤ length (rows_asked (key_lengths b.catalog.rels) rel conds (world_of (key_lengths b.catalog.rels) b.stmts w))
     few_rows = rows_within (keys_of b) b.stmts ns ts t lengths (consistent b has.base.valid) stored.tuples stored.rows wid small w path s (is_asked (keys_of b) rel vs)
-        (beginning (keys_of b rel) wid rel vs) span was_read.rows under
+        (key_prefix (keys_of b rel) wid rel vs) span was_read.rows under
 
     few_tuples : length us ≤ length (rows_said (key_lengths b.catalog.rels) s rel conds (world_of (key_lengths b.catalog.rels) b.stmts w))
     few_tuples =
         let within = tuples_within (keys_of b) b.stmts ns ts t lengths (consistent b has.base.valid) stored.tuples stored.rows wid small w path s (is_asked (keys_of b) rel vs)
-        (beginning (keys_of b rel) wid rel vs) span was_read.rows us under told in
+        (key_prefix (keys_of b rel) wid rel vs) span was_read.rows us under told in
         subst (λ n. n ≤ length (rows_said (key_lengths b.catalog.rels) s rel conds (world_of (key_lengths b.catalog.rels) b.stmts w))) (sym (as_many t (filter (is_said s) was_read.rows) us told)) within
 
     pub reads_are_few : (a : ℕ) → old.reads ≤ new.reads → RisesWithin (length w + 2) a old.reads

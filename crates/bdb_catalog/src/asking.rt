@@ -3,7 +3,7 @@ ghost use Rattle.std.specs.Prelude.{◌≡◌, IfOk};
 ghost use Rattle.std.specs.Option.{option_copied};
 ghost use Rattle.bdb_catalog.specs.Taking.{asks_for, literal_of, value_asked, value_of_test, values_asked};
 ghost use Rattle.bdb_base.specs.Bases.{is_written};
-ghost use Rattle.bdb_tables.specs.Beginnings.{HasPutValues};
+ghost use Rattle.bdb_tables.specs.Prefixes.{HasPutValues};
 
 use bdb_base::{Cmp, Cond, Operand, Value, is_written};
 use bdb_key::put_value;

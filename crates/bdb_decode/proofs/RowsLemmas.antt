@@ -28,7 +28,7 @@ use Rattle.bdb_val.specs.Reads.{AreReadUnder, HasRows, HaveTuples, world_prefix}
 use Rattle.bdb_val.specs.Settled.{settled_mark, sign_at}
 use Rattle.bdb_val.specs.Settling.{mark_in, next_mark, AreNamed, are_apart, row_key}
 use Rattle.bdb_val.specs.Steps.{IsSettling, rows_made}
-use Rattle.bdb_val.specs.declared.stored.Stored.{Stored}
+use Rattle.bdb_val.specs.declared.stored.StoredRow.{StoredRow}
 use Rattle.bdb_val.proofs.HeldLemmas.{names_are_linked, settled_rows_are_held, held_rows_are_explicit, held_rows_are_settled}
 use Rattle.bdb_val.proofs.ReadLemmas.{read_named, read_apart, world_span}
 use Rattle.bdb_val.proofs.StepLemmas.{own_mark, next_after, settled_after}
@@ -50,7 +50,7 @@ module _ (keys : ℕ → ℕ) (stmts : List Stmt) (ns : Names) (tuple : ℕ → 
       let m = (names_are_linked ns names).link wid i w e in
       subst (λ o. MatchOption o (Unit {0}) IsNum) (sym m.1) (named_size m.0 _ m.2)
 
-  module _ (wid : ℕ) (w : List ℕ) (p : path_of ns wid ≡ Some w) (link : Option ℕ) (l : link_of ns wid ≡ link) (own from : List Stored)
+  module _ (wid : ℕ) (w : List ℕ) (p : path_of ns wid ≡ Some w) (link : Option ℕ) (l : link_of ns wid ≡ link) (own from : List StoredRow)
       (own_read : AreReadUnder t (world_prefix wid) own) (from_read : MatchOption link (from ≡ []) (λ m. AreReadUnder t (world_prefix m) from)) where
     size : IsNum wid
     size = named_size wid w p
@@ -61,7 +61,7 @@ module _ (keys : ℕ → ℕ) (stmts : List Stmt) (ns : Names) (tuple : ℕ → 
     own_named : AreNamed tuple own
     own_named = read_named keys tuple f t h.rows (world_prefix wid) own own_read
 
-    by_link : (P : List Stored → Type 0) → P [] → ((m : ℕ) → IsNum m → AreReadUnder t (world_prefix m) from → P from) → P from
+    by_link : (P : List StoredRow → Type 0) → P [] → ((m : ℕ) → IsNum m → AreReadUnder t (world_prefix m) from → P from) → P from
     by_link P none some = go link size_link from_read
       where
         go : (o : Option ℕ) → MatchOption o (Unit {0}) IsNum → MatchOption o (from ≡ []) (λ m. AreReadUnder t (world_prefix m) from) → P from
@@ -185,7 +185,7 @@ rows_told keys t worlds b fits keyed h stmts ns ts c = by b h
 pub world_told : (keys : ℕ → ℕ) (t u : Tables) (x : ℕ × Option ℕ) (a b : Bool) → u ≡ t → a ≡ b → TellsWorld keys u x a → TellsWorld keys t x b
 world_told keys t u x a b same is h = subst (λ v. TellsWorld keys v x b) same (subst (TellsWorld keys u x) is h)
 
-pub linked_none : (t : Tables) (rows : List Stored) → rows ≡ [] → AreLinked t None rows
+pub linked_none : (t : Tables) (rows : List StoredRow) → rows ≡ [] → AreLinked t None rows
 linked_none t rows none = record { read = none; apart = ap are_apart none }
 
 pub keyed_tuples : (keys : ℕ → ℕ) (t : Tables) → AreKeyed keys t → HaveTuples t
@@ -231,7 +231,7 @@ module _ (keys : ℕ → ℕ) (t : Tables) (g : InGrammar t) (keyed : AreKeyed k
   }
 
   -- rows of one world that are read are of tuples of their own
-  pub keyed_apart : (wid : ℕ) → IsNum wid → (xs : List Stored) → AreReadUnder t (world_prefix wid) xs → are_apart xs ≡ true
+  pub keyed_apart : (wid : ℕ) → IsNum wid → (xs : List StoredRow) → AreReadUnder t (world_prefix wid) xs → are_apart xs ≡ true
   keyed_apart wid size xs r = read_apart keys given_tuple given_row t rows_given wid (λ _. true) (world_prefix wid) xs (world_span keys wid size) r
 
 -- ---- a world of a list, by its place

@@ -16,7 +16,7 @@ use Rattle.bdb_tables.specs.Marks.{Mark, sign_of, explicit_of}
 use Rattle.bdb_update.proofs.ExplicitLemmas.{unfiltered}
 use Rattle.bdb_val.specs.Settled.{settled_mark, passed_on, is_barred}
 use Rattle.bdb_val.specs.Settling.{mark_in, barred_by, next_mark, AreNamed, are_apart}
-use Rattle.bdb_val.specs.declared.stored.Stored.{Stored}
+use Rattle.bdb_val.specs.declared.stored.StoredRow.{StoredRow}
 use Rattle.bdb_val.proofs.SettlingLemmas.{mark_is_some}
 use Rattle.bdb_val.proofs.StepLemmas.{mark_of_each}
 use Rattle.bdb_decode.specs.Settles.{is_explicit, is_inherited, has_sign, is_fitting, is_passed, settles}
@@ -70,7 +70,7 @@ none_mark o m a b = cc
 one_mark : (m n : Mark) → Some m ≡ Some n → m ≡ n
 one_mark m n e = cc
 
-pick : (P : Stored → Type 0) (xs : List Stored) (tid : ℕ) (m : Mark) → AllByRecursion P xs → mark_in xs tid ≡ Some m → (x : Stored) × (P x) × (x.tid ≡ tid) × (x.mark ≡ m)
+pick : (P : StoredRow → Type 0) (xs : List StoredRow) (tid : ℕ) (m : Mark) → AllByRecursion P xs → mark_in xs tid ≡ Some m → (x : StoredRow) × (P x) × (x.tid ≡ tid) × (x.mark ≡ m)
 pick P [] tid m a e = absurd (none_mark (mark_in [] tid) m refl e)
 pick P (x ∷ xs) tid m a e = elim (cases_Bool (nat_eq x.tid tid)) [
   | inl b ↦ (x, a.0, eqb-true x.tid tid b, one_mark x.mark m (sym (cond-true (nat_eq x.tid tid) (Some x.mark) (mark_in xs tid) b) ∙ e))
@@ -81,7 +81,7 @@ one_tuple : (tuple : ℕ → Option Tuple) (a b : ℕ) (t u : Tuple) → tuple a
 one_tuple tuple a b t u p q e = let l : tuple a ≡ tuple b = ap tuple e in cc
 
 -- what explicit rows bar, all rows do
-barred_stated : (keys : ℕ → ℕ) (xs : List Stored) (t : Tuple) (s : Sign) → barred_by keys (filter is_explicit xs) t s ≡ barred_by keys xs t s
+barred_stated : (keys : ℕ → ℕ) (xs : List StoredRow) (t : Tuple) (s : Sign) → barred_by keys (filter is_explicit xs) t s ≡ barred_by keys xs t s
 barred_stated keys [] t s = refl
 barred_stated keys (x ∷ xs) t s =
     let c = clash keys t s x.tuple x.mark.0 in
@@ -91,16 +91,16 @@ barred_stated keys (x ∷ xs) t s =
     ]
 
 -- whether rows bar a signed tuple is told by the length of its relation's key
-pub barred_of : (keys : ℕ → ℕ) (n : ℕ) (xs : List Stored) (t : Tuple) (s : Sign) → n ≡ keys t.rel → barred_by (λ _. n) xs t s ≡ barred_by keys xs t s
+pub barred_of : (keys : ℕ → ℕ) (n : ℕ) (xs : List StoredRow) (t : Tuple) (s : Sign) → n ≡ keys t.rel → barred_by (λ _. n) xs t s ≡ barred_by keys xs t s
 barred_of keys n [] t s e = refl
 barred_of keys n (x ∷ xs) t s e =
     ap (λ b. (x.mark.1 && b) || barred_by (λ _. n) xs t s) (clash_of keys n t s x.tuple x.mark.0 e)
     ∙ ap (λ b. (x.mark.1 && clash keys t s x.tuple x.mark.0) || b) (barred_of keys n xs t s e)
 
-found_kept : (p : Stored → Bool) (xs : List Stored) (tid : ℕ) → is_some (mark_in (filter p xs) tid) ≡ true → is_some (mark_in xs tid) ≡ true
+found_kept : (p : StoredRow → Bool) (xs : List StoredRow) (tid : ℕ) → is_some (mark_in (filter p xs) tid) ≡ true → is_some (mark_in xs tid) ≡ true
 found_kept p xs tid e = mark_is_some xs tid ∙ list_any-filter_some (λ y. nat_eq y.tid tid) p xs (sym (mark_is_some (filter p xs) tid) ∙ e)
 
-split_found : (xs : List Stored) (tid : ℕ) → is_some (mark_in xs tid) ≡ true → (is_some (mark_in (filter is_explicit xs) tid) || is_some (mark_in (filter is_inherited xs) tid)) ≡ true
+split_found : (xs : List StoredRow) (tid : ℕ) → is_some (mark_in xs tid) ≡ true → (is_some (mark_in (filter is_explicit xs) tid) || is_some (mark_in (filter is_inherited xs) tid)) ≡ true
 split_found xs tid e =
     ap (λ b. b || is_some (mark_in (filter is_inherited xs) tid)) (mark_is_some (filter is_explicit xs) tid)
     ∙ ap (λ b. list_any (λ y. nat_eq y.tid tid) (filter is_explicit xs) || b) (mark_is_some (filter is_inherited xs) tid)
@@ -148,22 +148,22 @@ settled_none m bars e = elim (cases_Bool (bars m.0)) [
 
 -- ---- the test
 
-module _ (keys : ℕ → ℕ) (tuple : ℕ → Option Tuple) (own from : List Stored) (a : AreNamed tuple own) (b : AreNamed tuple from) where
-  abbrev stated : List Stored
+module _ (keys : ℕ → ℕ) (tuple : ℕ → Option Tuple) (own from : List StoredRow) (a : AreNamed tuple own) (b : AreNamed tuple from) where
+  abbrev stated : List StoredRow
   stated = filter is_explicit own
 
-  abbrev inherited : List Stored
+  abbrev inherited : List StoredRow
   inherited = filter is_inherited own
 
   abbrev next : Tuple → Option Mark → Option Mark → Option Mark
   next u o q = settled_mark (explicit_of o) (barred_by keys own u) (sign_of q)
 
   -- an inherited row of the world
-  abbrev Fits : Stored → Type 0
+  abbrev Fits : StoredRow → Type 0
   Fits x = (tuple x.tid ≡ Some x.tuple) × (is_inherited x ≡ true → is_fitting keys stated from x ≡ true)
 
   -- a row of the other world
-  abbrev Passes : Stored → Type 0
+  abbrev Passes : StoredRow → Type 0
   Passes y = (tuple y.tid ≡ Some y.tuple) × (is_passed keys stated inherited y ≡ true)
 
   -- each tuple has the row that it is to have, where the test is passed
@@ -218,13 +218,13 @@ module _ (keys : ℕ → ℕ) (tuple : ℕ → Option Tuple) (own from : List St
       (true_all (is_passed keys stated inherited) from
       (all_both (λ y. tuple y.tid ≡ Some y.tuple) (λ y. mark_in from y.tid ≡ Some y.mark) (λ y. is_passed keys stated inherited y ≡ true) from pass b (mark_of_each from from (λ _ _ k. k) d)))
     where
-      fit : (x : Stored) → tuple x.tid ≡ Some x.tuple → mark_in own x.tid ≡ Some x.mark → is_inherited x ≡ true → is_fitting keys stated from x ≡ true
+      fit : (x : StoredRow) → tuple x.tid ≡ Some x.tuple → mark_in own x.tid ≡ Some x.mark → is_inherited x ≡ true → is_fitting keys stated from x ≡ true
       fit x n k i =
           let told = settled_inherited x.mark (barred_by keys own x.tuple) (mark_in from x.tid) (not-true x.mark.1 i)
           (sym k ∙ h x.tid x.tuple n ∙ ap (λ o. next x.tuple o (mark_in from x.tid)) k) in
           and_from (not (barred_by keys stated x.tuple x.mark.0)) (has_sign x.mark.0 (mark_in from x.tid)) (ap not (barred_stated keys own x.tuple x.mark.0 ∙ told.0)) told.1
 
-      pass : (y : Stored) → tuple y.tid ≡ Some y.tuple → mark_in from y.tid ≡ Some y.mark → is_passed keys stated inherited y ≡ true
+      pass : (y : StoredRow) → tuple y.tid ≡ Some y.tuple → mark_in from y.tid ≡ Some y.mark → is_passed keys stated inherited y ≡ true
       pass y n k = by (mark_in own y.tid) refl
         where
           bars : Bool
@@ -238,14 +238,14 @@ module _ (keys : ℕ → ℕ) (tuple : ℕ → Option Tuple) (own from : List St
 
 -- ---- where a row is found
 
-pub found_here : (rows : List Stored) (i tid : ℕ) (x : Stored) → i < length rows → x ≡ get_or rows i x → are_apart rows ≡ true → x.tid ≡ tid → Some x.mark ≡ mark_in rows tid
+pub found_here : (rows : List StoredRow) (i tid : ℕ) (x : StoredRow) → i < length rows → x ≡ get_or rows i x → are_apart rows ≡ true → x.tid ≡ tid → Some x.mark ≡ mark_in rows tid
 found_here rows i tid x lt is a e =
     sym (ap (mark_in rows) (sym e) ∙ all_at_index (λ y. mark_in rows y.tid ≡ Some y.mark) rows i x lt is (mark_of_each rows rows (λ _ _ k. k) a))
 
-pub found_some : (rows : List Stored) (i tid : ℕ) (x : Stored) → i < length rows → x ≡ get_or rows i x → x.tid ≡ tid → is_some (mark_in rows tid) ≡ true
+pub found_some : (rows : List StoredRow) (i tid : ℕ) (x : StoredRow) → i < length rows → x ≡ get_or rows i x → x.tid ≡ tid → is_some (mark_in rows tid) ≡ true
 found_some [] i tid x lt is e = absurd (omega arith)
 found_some (y ∷ ys) zero tid x lt is e =
-    ap is_some (cond-true (nat_eq y.tid tid) (Some y.mark) (mark_in ys tid) (eq-eqb y.tid tid (ap (λ (z : Stored). z.tid) (sym is) ∙ e)))
+    ap is_some (cond-true (nat_eq y.tid tid) (Some y.mark) (mark_in ys tid) (eq-eqb y.tid tid (ap (λ (z : StoredRow). z.tid) (sym is) ∙ e)))
 found_some (y ∷ ys) (suc i) tid x lt is e = elim (cases_Bool (nat_eq y.tid tid)) [
   | inl b ↦ ap is_some (cond-true (nat_eq y.tid tid) (Some y.mark) (mark_in ys tid) b)
   | inr b ↦ ap is_some (cond-false (nat_eq y.tid tid) (Some y.mark) (mark_in ys tid) b) ∙ found_some ys i tid x (omega arith) is e

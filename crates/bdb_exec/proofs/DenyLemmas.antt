@@ -32,11 +32,11 @@ use Rattle.bdb_tables.specs.Names.{leads_to}
 use Rattle.bdb_tables.specs.Spans.{AreUnder, IsUnder}
 use Rattle.bdb_base.specs.Bases.{is_written}
 use Rattle.bdb_tables.proofs.PartLemmas.{vals_form}
-use Rattle.bdb_tables.proofs.BeginningLemmas.{values_part, all_written}
+use Rattle.bdb_tables.proofs.PrefixLemmas.{values_part, all_written}
 use Rattle.bdb_tables.proofs.ListLemmas.{prefix_append, prefix_rest}
 use Rattle.bdb_exec.specs.Keys.{begins_so, of_key, rows_of_key}
 use Rattle.bdb_exec.specs.Readable.{CanBeRun}
-use Rattle.bdb_exec.specs.Rows.{IsNumberOf, signed_of, mark_denies, row_denies, world_prefix, key_prefix}
+use Rattle.bdb_exec.specs.Rows.{IsNumberOf, signed_of, mark_denies, row_denies, relation_prefix, key_prefix}
 use Rattle.bdb_exec.specs.Seen.{rows_at, signed_in, signed_under, sight_of}
 use Rattle.bdb_exec.proofs.LengthLemmas.{keys_sized, take_whole}
 use Rattle.bdb_exec.proofs.TypedLemmas.{raw}
@@ -73,9 +73,9 @@ filter_map f p (x ∷ xs) = by (filter_map f p xs) (p (f x))
 -- ---- beginnings
 
 -- the world and the relation of a key
-pub world_parts : (w rel : ℕ) → IsNum w → IsNum rel → (k : ValKey) → IsValKey k → is_prefix (world_prefix w rel) (val_bytes k) ≡ true → (k.0 ≡ w) × (k.1 ≡ rel)
+pub world_parts : (w rel : ℕ) → IsNum w → IsNum rel → (k : ValKey) → IsValKey k → is_prefix (relation_prefix w rel) (val_bytes k) ≡ true → (k.0 ≡ w) × (k.1 ≡ rel)
 world_parts w rel nw nr k f e =
-    let s = prefix_rest (world_prefix w rel) (val_bytes k) e in
+    let s = prefix_rest (relation_prefix w rel) (val_bytes k) e in
     let one = num_form k.0 w (num_bytes k.1 ++ vals_bytes k.2 ++ num_bytes k.3) (num_bytes rel ++ s.0) f.world nw s.1 in
     let two = num_form k.1 rel (vals_bytes k.2 ++ num_bytes k.3) s.0 f.rel nr one.1 in
     (one.0, two.0)
@@ -132,19 +132,19 @@ begun vs u e = (same_values-Decides (take (length vs) u.vals) vs).0 e
 -- ---- rows of one world and relation
 
 module _ (t : Tables) (h : CanBeRun t) (w rel : ℕ) (nw : IsNum w) (nr : IsNum rel) where
-  pub rows_of : (sight_of t).rows w rel ≡ signed_under t (world_prefix w rel)
+  pub rows_of : (sight_of t).rows w rel ≡ signed_under t (relation_prefix w rel)
   unfolding sight_of
-  rows_of = cond-true (nat_lt rel (2 ^ 32)) (signed_under t (world_prefix w rel)) [] (below rel nr)
+  rows_of = cond-true (nat_lt rel (2 ^ 32)) (signed_under t (relation_prefix w rel)) [] (below rel nr)
     where
       below : (n : ℕ) → n < 2 ^ 32 → nat_lt n (2 ^ 32) ≡ true
       below n lt = grind (arith, nat_tests)
 
   pub all : List (ValKey × Mark)
-  all = (typed_rows t (world_prefix w rel) h.rows.fits).0
+  all = (typed_rows t (relation_prefix w rel) h.rows.fits).0
 
-  pub are_typed : AreTyped t (world_prefix w rel) all
+  pub are_typed : AreTyped t (relation_prefix w rel) all
   unfolding all
-  are_typed = (typed_rows t (world_prefix w rel) h.rows.fits).1
+  are_typed = (typed_rows t (relation_prefix w rel) h.rows.fits).1
 
   -- a row of the world and the relation, with its tuple
   pub record IsHere (e : ValKey × Mark) : Type 0 where
@@ -157,7 +157,7 @@ module _ (t : Tables) (h : CanBeRun t) (w rel : ℕ) (nw : IsNum w) (nr : IsNum 
     pub of_rel : u.rel ≡ rel
     pub vals : key_of (sight_of t).keys u ≡ e.0.2
 
-  here : (e : ValKey × Mark) → IsUnder val_codec (world_prefix w rel) e → StandsForTuple t h e → IsHere e
+  here : (e : ValKey × Mark) → IsUnder val_codec (relation_prefix w rel) e → StandsForTuple t h e → IsHere e
   here e a k =
       let p = world_parts w rel nw nr e.0 a.key a.begins in
       let q = and_parts (nat_eq k.0.rel e.0.1) (same_values (key_of (sight_of t).keys k.0) e.0.2) k.2 in
@@ -173,10 +173,10 @@ module _ (t : Tables) (h : CanBeRun t) (w rel : ℕ) (nw : IsNum w) (nr : IsNum 
       }
 
   pub all_here : AllByRecursion IsHere all
-  all_here = all_both (IsUnder val_codec (world_prefix w rel)) (StandsForTuple t h) IsHere all here are_typed.each (all_told t h (world_prefix w rel) all are_typed)
+  all_here = all_both (IsUnder val_codec (relation_prefix w rel)) (StandsForTuple t h) IsHere all here are_typed.each (all_told t h (relation_prefix w rel) all are_typed)
 
   pub shown_all : (sight_of t).rows w rel ≡ map (signed_of t) all
-  shown_all = rows_of ∙ shown t (world_prefix w rel) all are_typed
+  shown_all = rows_of ∙ shown t (relation_prefix w rel) all are_typed
 
   -- a row's key begins as its tuple does
   first_at : (e : ValKey × Mark) (k : IsHere e) (m : ℕ) → m ≤ (sight_of t).keys k.u.rel → take m e.0.2 ≡ take m k.u.vals
@@ -191,16 +191,16 @@ module _ (t : Tables) (h : CanBeRun t) (w rel : ℕ) (nw : IsNum w) (nr : IsNum 
 
   module _ (more : List ℕ) where
     abbrev goes_on : ValKey × Mark → Bool
-    goes_on e = is_prefix (world_prefix w rel ++ more) (val_bytes e.0)
+    goes_on e = is_prefix (relation_prefix w rel ++ more) (val_bytes e.0)
 
-    rows_narrow : rows_at t (val_codec.number ∷ (world_prefix w rel ++ more)) ≡ map (raw val_codec) (filter goes_on all)
+    rows_narrow : rows_at t (val_codec.number ∷ (relation_prefix w rel ++ more)) ≡ map (raw val_codec) (filter goes_on all)
     rows_narrow =
-        filter_narrow (λ e. is_prefix (val_codec.number ∷ (world_prefix w rel ++ more)) e.0) (λ e. is_prefix (val_codec.number ∷ world_prefix w rel) e.0) (Rattle.std.specs.FinMap.entries t)
-        (λ e b. is_prefix_shorter (val_codec.number ∷ world_prefix w rel) more e.0 b)
-        ∙ ap (filter (λ e. is_prefix (val_codec.number ∷ (world_prefix w rel ++ more)) e.0)) are_typed.rows
-        ∙ filter_map (raw val_codec) (λ e. is_prefix (val_codec.number ∷ (world_prefix w rel ++ more)) e.0) all
+        filter_narrow (λ e. is_prefix (val_codec.number ∷ (relation_prefix w rel ++ more)) e.0) (λ e. is_prefix (val_codec.number ∷ relation_prefix w rel) e.0) (Rattle.std.specs.FinMap.entries t)
+        (λ e b. is_prefix_shorter (val_codec.number ∷ relation_prefix w rel) more e.0 b)
+        ∙ ap (filter (λ e. is_prefix (val_codec.number ∷ (relation_prefix w rel ++ more)) e.0)) are_typed.rows
+        ∙ filter_map (raw val_codec) (λ e. is_prefix (val_codec.number ∷ (relation_prefix w rel ++ more)) e.0) all
 
-    narrow_shown : signed_under t (world_prefix w rel ++ more) ≡ map (signed_of t) (filter goes_on all)
+    narrow_shown : signed_under t (relation_prefix w rel ++ more) ≡ map (signed_of t) (filter goes_on all)
     narrow_shown = ap (map (signed_in t)) rows_narrow ∙ twice (filter goes_on all)
       where
         twice : (es : List (ValKey × Mark)) → map (signed_in t) (map (raw val_codec) es) ≡ map (signed_of t) es
@@ -375,8 +375,8 @@ module _ (t : Tables) (h : CanBeRun t) (w rel : ℕ) (nw : IsNum w) (nr : IsNum 
   read_narrow es under =
       let read = typed_under t (group_bytes w rel own_key) es under in
       let narrow = filter of_key_of (all t h w rel nw nr) in
-      raw_one t h (group_bytes w rel own_key) (world_prefix w rel) es narrow read.each
-      (all_filter (IsUnder val_codec (world_prefix w rel)) of_key_of (all t h w rel nw nr) (are_typed t h w rel nw nr).each)
+      raw_one t h (group_bytes w rel own_key) (relation_prefix w rel) es narrow read.each
+      (all_filter (IsUnder val_codec (relation_prefix w rel)) of_key_of (all t h w rel nw nr) (are_typed t h w rel nw nr).each)
       (sym read.rows ∙ rows_narrow t h w rel nw nr (vals_bytes own_key))
 
   pub denied_is : (number : Option ℕ) (es : List (ValKey × Mark)) → IsNumberOf t u0 number → AreKeyVals (key_of (sight_of t).keys u0) → AreUnder val_codec t (group_bytes w rel (key_of (sight_of t).keys u0)) es

@@ -12,7 +12,7 @@ use Rattle.bdb_base.specs.Conditions.{compare_so}
 use Rattle.bdb_base.specs.Queries.{option_list}
 use Rattle.bdb_base.specs.OrderLemmas.{value_exact}
 use Rattle.bdb_base.specs.Order.{value_cmp}
-use Rattle.bdb_base.specs.Safety.{is_column, is_equality, same_column, first_there}
+use Rattle.bdb_base.specs.Safety.{is_column, is_equality, same_column, first_there, column}
 use Rattle.bdb_base.specs.SameLemmas.{same_values-Decides}
 use Rattle.bdb_base.specs.declared.kinds.Cmp.TheVariants.{Eq}
 use Rattle.bdb_base.specs.declared.kinds.Cond.{Cond}
@@ -26,12 +26,12 @@ use Rattle.bdb_base.proofs.ListLemmas.{length-filter_le, drop_there}
 use Rattle.bdb_base.proofs.OptionLemmas.{none_is_some}
 use Rattle.bdb_base.proofs.ConditionLemmas.{equality_is, equal_value}
 use Rattle.bdb_queries.specs.Slots.{slot_at, known, known_operand, must_hold}
-use Rattle.bdb_plan.specs.Running.{Reached, with_slot, with_choice, choices, settled, after, reached_if, rows_from, reads_from, own_reads}
+use Rattle.bdb_plan.specs.Running.{Reached, with_slot, with_choice, choices, decided, after, reached_if, rows_from, reads_from, own_reads}
 use Rattle.bdb_plan.specs.Sight.{Sight}
 use Rattle.bdb_plan.specs.declared.step.Step.{Step}
 use Rattle.bdb_plan.specs.declared.step.Step.TheVariants as step
-use Rattle.bdb_exec.specs.Keys.{tests_hold, passes, begins_so, column, names_another, asks_for_key, asks_on_left, asks_on_right, value_of_test, value_behind, values_behind, of_key, rows_of_key, key_asked, narrowed, choices_before, after_before}
-use Rattle.bdb_tables.specs.Beginnings.{led_by}
+use Rattle.bdb_exec.specs.Keys.{tests_hold, passes, begins_so, names_another, asks_for_key, asks_on_left, asks_on_right, value_of_test, value_behind, values_behind, of_key, rows_of_key, key_asked, narrowed, choices_before, after_before}
+use Rattle.bdb_tables.specs.Prefixes.{led_by}
 use Rattle.bdb_plan.proofs.StandLemmas.{slot_other, slot_set}
 use Rattle.bdb_exec.specs.LookUps.{looks_from, own_looks, deny_looks, pool_looks}
 use Rattle.bdb_exec.proofs.DenyLemmas.{filter_narrow}
@@ -245,7 +245,7 @@ pub choice_before : (sight : Sight) (taken : List Ref) (s : Reached) (x : Step) 
     → flat_map (rows_from sight taken xs) (after sight s x) ≡ flat_map (λ t. rows_from sight taken xs (with_slot s item t)) pool
 choice_before sight taken s x xs item pool e = by (choices sight s x) e
   where
-    by : (o : Choices) → some_choices item pool ≡ narrowed s xs o → flat_map (rows_from sight taken xs) (with_choice s o (settled sight s x)) ≡ flat_map (λ t. rows_from sight taken xs (with_slot s item t)) pool
+    by : (o : Choices) → some_choices item pool ≡ narrowed s xs o → flat_map (rows_from sight taken xs) (with_choice s o (decided sight s x)) ≡ flat_map (λ t. rows_from sight taken xs (with_slot s item t)) pool
     by None e = absurd (none_chosen (sym e))
     by (Some c) e =
         let h = choice_same e in
@@ -265,7 +265,7 @@ chosen_looks sight xs s item (t ∷ pool) =
 
 pub looks_before : (sight : Sight) (s : Reached) (x : Step) (xs : List Step) (item : ℕ) (pool : List Tuple) → some_choices item pool ≡ choices_before sight s x xs
     → sum_by (looks_from sight xs) (after_before sight s x xs) ≡ sum_by (λ t. looks_from sight xs (with_slot s item t)) pool
-looks_before sight s x xs item pool e = sym (ap (λ o. sum_by (looks_from sight xs) (with_choice s o (settled sight s x))) e) ∙ chosen_looks sight xs s item pool
+looks_before sight s x xs item pool e = sym (ap (λ o. sum_by (looks_from sight xs) (with_choice s o (decided sight s x))) e) ∙ chosen_looks sight xs s item pool
 
 module _ (F G : Reached → ℕ) (h : (z : Reached) → F z ≤ G z) where
   sum_fewer : (zs : List Reached) → sum_by F zs ≤ sum_by G zs
@@ -297,8 +297,8 @@ module _ (F G : Reached → ℕ) (h : (z : Reached) → F z ≤ G z) where
   after_fewer : (sight : Sight) (s : Reached) (x : Step) (xs : List Step) → sum_by F (after_before sight s x xs) ≤ sum_by G (after sight s x)
   after_fewer sight s x xs = by (choices sight s x)
     where
-      by : (o : Choices) → sum_by F (with_choice s (narrowed s xs o) (settled sight s x)) ≤ sum_by G (with_choice s o (settled sight s x))
-      by None = sum_fewer (option_list (settled sight s x))
+      by : (o : Choices) → sum_by F (with_choice s (narrowed s xs o) (decided sight s x)) ≤ sum_by G (with_choice s o (decided sight s x))
+      by None = sum_fewer (option_list (decided sight s x))
       by (Some c) = chosen_fewer (with_slot s c.0) (passes s.slots c.0 xs) c.1
 
 -- the rows of a key are not more than all

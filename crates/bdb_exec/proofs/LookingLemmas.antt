@@ -21,7 +21,7 @@ use Rattle.bdb_tables.specs.Codec.{HasAt, HasRow}
 use Rattle.bdb_tables.specs.InUse.{user_codec, tuple_codec, tuple_ix_codec, edge_codec}
 use Rattle.bdb_tables.specs.InUseLaws.{number_rows_are_one}
 use Rattle.bdb_tables.specs.Spans.{AreUnder, IsUnder}
-use Rattle.bdb_tables.proofs.BeginningLemmas.{all_written}
+use Rattle.bdb_tables.proofs.PrefixLemmas.{all_written}
 use Rattle.bdb_base.specs.Bases.{is_written}
 use Rattle.bdb_exec.specs.Readable.{CanBeRun}
 use Rattle.bdb_exec.specs.Rows.{IsNumberOf, tuple_of_slot}

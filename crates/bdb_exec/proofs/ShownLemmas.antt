@@ -48,7 +48,7 @@ use Rattle.bdb_tables.proofs.ListLemmas.{prefix_append}
 use Rattle.bdb_tables.proofs.SignLemmas.{sign_holds}
 use Rattle.bdb_exec.specs.Based.{HaveBase, ShowBase, TablesShowBase, world_number}
 use Rattle.bdb_exec.specs.Readable.{CanBeRun}
-use Rattle.bdb_exec.specs.Rows.{signed_of, tuple_of_slot, world_prefix}
+use Rattle.bdb_exec.specs.Rows.{signed_of, tuple_of_slot, relation_prefix}
 use Rattle.bdb_exec.specs.Seen.{length_in, rows_at, signed_under, sight_of, width_in}
 use Rattle.bdb_exec.specs.Spelled.{number_in}
 use Rattle.bdb_exec.proofs.LengthLemmas.{key_vals, keys_sized}
@@ -445,10 +445,10 @@ module _ (ns : Names) (ts : Tuples) (t : Tables) (b : Contents) (valid : IsValid
         ∙ ap (row_named keys b.stmts k (Some w)) tuple
         ∙ cond-true (has_key keys k u) (mark_of keys b.stmts w u) None has
         ∙ ap (marked (explicit b.stmts w u)) (sign_of_row w u s p.1) in
-        let begins : is_prefix (val_codec.number ∷ world_prefix (world_number ns w) rel) (place val_codec k) ≡ true = prefix_append (world_prefix (world_number ns w) rel) (vals_bytes (key_of keys u) ++ num_bytes id.0) in
-        let found : find bytes_cmp (place val_codec k) (rows_at t (val_codec.number ∷ world_prefix (world_number ns w) rel)) ≡ Some (mark_bytes m) =
-        at_find val_codec t (val_codec.number ∷ world_prefix (world_number ns w) rel) (place val_codec k)
-        ∙ cond-true (is_prefix (val_codec.number ∷ world_prefix (world_number ns w) rel) (place val_codec k)) (tables.get t (place val_codec k)) None begins
+        let begins : is_prefix (val_codec.number ∷ relation_prefix (world_number ns w) rel) (place val_codec k) ≡ true = prefix_append (relation_prefix (world_number ns w) rel) (vals_bytes (key_of keys u) ++ num_bytes id.0) in
+        let found : find bytes_cmp (place val_codec k) (rows_at t (val_codec.number ∷ relation_prefix (world_number ns w) rel)) ≡ Some (mark_bytes m) =
+        at_find val_codec t (val_codec.number ∷ relation_prefix (world_number ns w) rel) (place val_codec k)
+        ∙ cond-true (is_prefix (val_codec.number ∷ relation_prefix (world_number ns w) rel) (place val_codec k)) (tables.get t (place val_codec k)) None begins
         ∙ h.rows.rows k vk ∙ ap (option_map mark_bytes) is in
         found_one k m vk tuple refl es here (ap (find bytes_cmp (place val_codec k)) (sym (are_typed t run (world_number ns w) rel (number_sized w state) nr).rows) ∙ found)
 

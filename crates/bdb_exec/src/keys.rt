@@ -1,8 +1,8 @@
 // Which first values a choice's tuple has to have, by the tests right behind it.
 ghost use Rattle.std.specs.Prelude.{◌≡◌};
 ghost use Rattle.std.specs.Option.{option_copied};
-ghost use Rattle.bdb_base.specs.Safety.{is_column, is_equality};
-ghost use Rattle.bdb_exec.specs.Keys.{asks_for_key, asks_on_left, asks_on_right, column, names_another, value_behind, value_of_test};
+ghost use Rattle.bdb_base.specs.Safety.{column, is_column, is_equality};
+ghost use Rattle.bdb_exec.specs.Keys.{asks_for_key, asks_on_left, asks_on_right, names_another, value_behind, value_of_test};
 
 use crate::shared::Shared;
 use bdb_base::{Cmp, Cond, Operand, Value};

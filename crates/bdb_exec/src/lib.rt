@@ -11,10 +11,10 @@ mod passing;
 mod prefixes;
 mod reading;
 mod running;
-mod settling;
+mod deciding;
 mod shared;
 mod slots;
 mod state;
 
 pub use errors::ExecError;
-pub use executing::{Rows, execute};
+pub use executing::{Rows, run_plan};

@@ -14,7 +14,7 @@ ghost use Rattle.bdb_exec.specs.Seen.{sight_of};
 
 use crate::memo::Memo;
 use crate::reading::choices;
-use crate::settling::settle;
+use crate::deciding::decide;
 use crate::shared::Shared;
 use crate::state::State;
 use bdb_base::{List, Ref};
@@ -86,7 +86,7 @@ pub fn advance<K: Keeper>(
             Ok(None) => {}
             Err(error) => return Err(error),
         }
-        match settle(alloc, keeper, memo, step, state) {
+        match decide(alloc, keeper, memo, step, state) {
             Ok(Some(next)) => state = next,
             Ok(None) => return Ok(Came::Nothing),
             Err(error) => return Err(error),

@@ -6,7 +6,7 @@ mod cut;
 mod cut_laws;
 mod gap;
 mod growing;
-mod mark;
+mod symbol;
 mod mode;
 mod piece_bytes;
 mod quoted;

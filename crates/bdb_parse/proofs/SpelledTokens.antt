@@ -14,9 +14,10 @@ use Rattle.bdb_base.specs.declared.kinds.Cmp.TheVariants as cmp
 use Rattle.bdb_base.specs.declared.kinds.Value.{Value}
 use Rattle.bdb_base.specs.declared.kinds.Value.TheVariants as value
 use Rattle.bdb_base.specs.Texts.{quoted, quoted_byte, int_text, cmp_text, value_text}
+use Rattle.bdb_base.specs.Bases.{is_clean}
 use Rattle.bdb_lex.specs.declared.token.Token.TheVariants.{Word, Text, Num, Eq, Ne, Lt, Le, Gt, Ge}
 use Rattle.bdb_lex.specs.Bytes.{is_word_byte}
-use Rattle.bdb_lex.specs.Tokens.{extended, tokens_from, is_content}
+use Rattle.bdb_lex.specs.Tokens.{extended, tokens_from}
 use Rattle.bdb_lex.specs.Tokens.Reading.{whole, in_text, after_dash}
 use Rattle.bdb_lex.proofs.TokenLemmas.{joined_nothing, started_letter, started_digit, digit_no_dash}
 use Rattle.bdb_syntax.specs.Printable.{is_word, is_in_word, begins_word, IsContent, IsPrintableValue}
@@ -62,7 +63,7 @@ text_run c (b ∷ t) rest = elim (cases_Bool (nat_eq b 39)) [
 
 pub text_reads : (t : List ℕ) → IsContent t → Reads (quoted t) (Text t ∷ [])
 text_reads t h =
-    let ok : is_content t ≡ true = and_from _ _ (is_utf8-from_IsUtf8 t h.0) h.1 in
+    let ok : is_clean t ≡ true = and_from _ _ (is_utf8-from_IsUtf8 t h.0) h.1 in
     record {
       reads = λ rest e. joined_nothing _ ∙ (ap (tokens_from (in_text [])) (append_assoc (flat_map quoted_byte t) (39 ∷ []) rest)
           ∙ (text_run [] t rest ∙ stops (Text t) rest (text_stops t rest e) ok));

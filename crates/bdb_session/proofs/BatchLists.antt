@@ -18,7 +18,7 @@ use Rattle.bdb_undo.specs.declared.change.Change.{Change}
 use Rattle.bdb_undo.proofs.ChangeLemmas.{same_base_alters_nothing}
 use Rattle.bdb_undo.proofs.SameLemmas.{same_contents_are_one, contents_are_their_own}
 use Rattle.bdb_undo.proofs.TimelineLemmas.{nothing_kept_starts}
-use Rattle.bdb_session.specs.Batches.{Alters, AlterSome, AreRun, ServesBatch, SettlesBatch, alters_some, batch_timeline, is_altered, left_by, pieces, taken_over, without_changes}
+use Rattle.bdb_session.specs.Batches.{Alters, AlterSome, AreRun, ServesBatch, ClosesBatch, alters_some, batch_timeline, is_altered, left_by, pieces, taken_over, without_changes}
 use Rattle.bdb_session.specs.Known.{Known, Agrees, AgreesOnSome, Remembers, RemembersSome}
 use Rattle.bdb_session.specs.Machine.{accepts, next_state}
 use Rattle.bdb_session.specs.Outcome.{State, Outcome, start_from, state_after}
@@ -206,7 +206,7 @@ module _ (es : List Event) (before copy : Known) (old run mid new : Seen) (began
       (subst (λ (j : Known). Remembers new.kept j t) (sym k.same) (still_remembers old.kept new.kept before t (undone refused) r))
   undone_lists now (Err stop) refused k = λ t r. tt
 
-  pub batch_lists : (now : Known) (result : Result BatchReply StopError) → SettlesBatch copy told before now mid new result
+  pub batch_lists : (now : Known) (result : Result BatchReply StopError) → ClosesBatch copy told before now mid new result
       → (t : Timeline) → Remembers old.kept before t → OnOk result (Remembers new.kept now (batch_timeline t es))
   batch_lists now result h = elim (cases_Bool told.refused) [
     | inl refused ↦ undone_lists now result refused
@@ -224,7 +224,7 @@ copy_altered {T} es k copy now run x same h =
 
 -- where the batch was refused, its transaction was undone
 pub undone_kept : (before copy : Known) (old run mid new : Seen) (told : BatchReply) → IsStill old → IsBegin {T = Unit {0}} {E = StopError} old run (Ok tt) Fault → GoesOn run mid
-    → (now : Known) (result : Result BatchReply StopError) → SettlesBatch copy told before now mid new result → told.refused ≡ true → new.kept ≡ old.kept
+    → (now : Known) (result : Result BatchReply StopError) → ClosesBatch copy told before now mid new result → told.refused ≡ true → new.kept ≡ old.kept
 undone_kept before copy old run mid new told still began goes now result h refused =
     let k = MatchBool-at_true (IsUndone told before now mid new result) (IsKept (taken_over before copy) told before now mid new result) refused h in
     k.undo.dropped.undone ∙ goes.last ∙ began.last ∙ sym still.rest

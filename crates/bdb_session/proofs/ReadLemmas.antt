@@ -35,7 +35,7 @@ use Rattle.bdb_catalog.specs.Showing.{inherited}
 use Rattle.bdb_catalog.proofs.ShowingLemmas.{plain_paths_inherit}
 use Rattle.bdb_exec.specs.Based.{world_number}
 use Rattle.bdb_exec.specs.Readable.{CanBeRun}
-use Rattle.bdb_exec.specs.Rows.{signed_of, world_prefix}
+use Rattle.bdb_exec.specs.Rows.{signed_of, relation_prefix}
 use Rattle.bdb_exec.specs.Seen.{sight_of, signed_under}
 use Rattle.bdb_exec.proofs.DenyLemmas.{all, all_here, are_typed, IsHere, shown_all}
 use Rattle.bdb_exec.proofs.TypedLemmas.{raw}
@@ -115,7 +115,7 @@ module _ (t : Tables) (h : CanBeRun t) (w rel : ℕ) (nw : IsNum w) (nr : IsNum 
   here_sorted : is_sorted bytes_cmp (map (raw val_codec) here) ≡ true
   here_sorted =
       ap (is_sorted bytes_cmp) (sym (are_typed t h w rel nw nr).rows)
-      ∙ is_T _ (is_sorted-where_key bytes_cmp (is_prefix (val_codec.number ∷ world_prefix w rel)) (tables.entries t) (tables.entries_sorted t))
+      ∙ is_T _ (is_sorted-where_key bytes_cmp (is_prefix (val_codec.number ∷ relation_prefix w rel)) (tables.entries t) (tables.entries_sorted t))
 
   -- the tuples that are shown
   shown_tuples : map (λ (x : Tuple × Sign). x.0) ((sight_of t).rows w rel) ≡ map tuple_in here
@@ -169,7 +169,7 @@ held_tuple r = r.tuple
 
 no_rows : (t : Tables) (b : Contents) (h : StoresValid t b) (v : List ℕ) (rel : ℕ) → nat_lt rel (2 ^ 32) ≡ false → length (shown_at t b h v rel) ≡ 0
 unfolding sight_of
-no_rows t b h v rel e = ap length (cond-false (nat_lt rel (2 ^ 32)) (signed_under t (world_prefix (world_number h.stored.names v) rel)) [] e)
+no_rows t b h v rel e = ap length (cond-false (nat_lt rel (2 ^ 32)) (signed_under t (relation_prefix (world_number h.stored.names v) rel)) [] e)
 
 -- a state's world has each tuple that is shown of it
 shown_is_told : (t : Tables) (b : Contents) (h : StoresValid t b) (v : List ℕ) (rel : ℕ) → is_state b.stmts v ≡ true → (y : Tuple) → list_any (same_tuple y) (map signed_tuple (shown_at t b h v rel)) ≡ true

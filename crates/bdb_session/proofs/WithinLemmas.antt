@@ -18,7 +18,7 @@ use Rattle.bdb_session.specs.declared.stop.StopError.TheVariants.{Fault, Memory}
 use Rattle.bdb_session.specs.Known.{Known, Agrees, AgreesOnSome}
 use Rattle.bdb_session.specs.Outcome.{State, Outcome, Blank, Refused, Done, text_of, is_accepted, state_after, commit_count}
 use Rattle.bdb_session.specs.Served.{IsReply, Serves}
-use Rattle.bdb_session.specs.Within.{IsToldWithin, TellsWithin, IsSaid, IsKept, IsUndone, Settles}
+use Rattle.bdb_session.specs.Within.{IsToldWithin, TellsWithin, IsSaid, IsKept, IsUndone, Closes}
 use Rattle.bdb_session.proofs.ServedLemmas.{still_agrees, stop_serves, ends_well}
 
 -- ---- what is told of a step
@@ -224,7 +224,7 @@ module _ (outcome : State → Outcome) (sure : (s : State) → is_accepted (outc
         ends = ends_well before before old new r (record { stopped = d.stopped; rest = d.undone ∙ sym d.last }) fall;
       }
 
-  pub step_serves : (r : Reply) (now : Known) (result : Result Reply StopError) → TellsWithin outcome before learns run mid (Ok r) → Settles learns r before now mid new result
+  pub step_serves : (r : Reply) (now : Known) (result : Result Reply StopError) → TellsWithin outcome before learns run mid (Ok r) → Closes learns r before now mid new result
       → Serves outcome before now old new result
   step_serves r now result t h = elim (cases_Bool r.accepted) [
     | inl done ↦ kept result (MatchBool-at_true (IsKept learns r before now mid new result) (IsUndone r before now mid new result) done h) done

@@ -33,7 +33,7 @@ use Rattle.bdb_session.specs.declared.stop.StopError.TheVariants.{Fault, Memory}
 use Rattle.bdb_session.specs.Known.{Known, Agrees, AgreesOnSome}
 use Rattle.bdb_session.specs.Machine.{clash_with}
 use Rattle.bdb_session.specs.Outcome.{State, Outcome, Refused, is_accepted}
-use Rattle.bdb_session.specs.Within.{IsSaid, IsStopped, Refuses, IsKept, IsUndone, Settles, sized}
+use Rattle.bdb_session.specs.Within.{IsSaid, IsStopped, Refuses, IsKept, IsUndone, Closes, sized}
 use Rattle.bdb_session.proofs.DeleteLemmas.{gone_is}
 use Rattle.bdb_session.proofs.InsertLemmas.{insert_meets}
 use Rattle.bdb_session.proofs.ServedLemmas.{still_agrees}
@@ -128,8 +128,8 @@ module _ (learns : Known) (r : Reply) (before now : Known) (old run mid new : Se
   kept_unwritten (Ok q) done k = λ f. absurd (false≢true (sym f ∙ ap (λ (x : Reply). x.accepted) k.reply ∙ done))
   kept_unwritten (Err stop) done k = tt
 
-  pub settled_unwritten : (result : Result Reply StopError) → Settles learns r before now mid new result → RefusedUnwritten old new result
-  settled_unwritten result h = elim (cases_Bool r.accepted) [
+  pub closed_unwritten : (result : Result Reply StopError) → Closes learns r before now mid new result → RefusedUnwritten old new result
+  closed_unwritten result h = elim (cases_Bool r.accepted) [
     | inl done ↦ kept_unwritten result done (MatchBool-at_true (IsKept learns r before now mid new result) (IsUndone r before now mid new result) done h)
     | inr undone ↦
         let k = MatchBool-at_false (IsKept learns r before now mid new result) (IsUndone r before now mid new result) undone h in
@@ -142,8 +142,8 @@ module _ (times more : ℕ) (learns : Known) (r : Reply) (before now : Known) (o
   kept_writes (Ok q) k = same_writes times more old run mid new began.kept began.writes k.commit.kept k.commit.writes within
   kept_writes (Err stop) k = tt
 
-  pub settled_writes : (result : Result Reply StopError) → Settles learns r before now mid new result → OnOk result (WritesWithin times more old new)
-  settled_writes result h = elim (cases_Bool r.accepted) [
+  pub closed_writes : (result : Result Reply StopError) → Closes learns r before now mid new result → OnOk result (WritesWithin times more old new)
+  closed_writes result h = elim (cases_Bool r.accepted) [
     | inl done ↦ kept_writes result (MatchBool-at_true (IsKept learns r before now mid new result) (IsUndone r before now mid new result) done h)
     | inr undone ↦
         let k = MatchBool-at_false (IsKept learns r before now mid new result) (IsUndone r before now mid new result) undone h in
@@ -154,8 +154,8 @@ module _ (times more : ℕ) (learns : Known) (r : Reply) (before now : Known) (o
   kept_same e (Ok q) k = k.commit.writes ∙ e ∙ began.writes
   kept_same e (Err stop) k = tt
 
-  settled_same : mid.writes ≡ run.writes → (result : Result Reply StopError) → Settles learns r before now mid new result → OnOk result (new.writes ≡ old.writes)
-  settled_same e result h = elim (cases_Bool r.accepted) [
+  closed_same : mid.writes ≡ run.writes → (result : Result Reply StopError) → Closes learns r before now mid new result → OnOk result (new.writes ≡ old.writes)
+  closed_same e result h = elim (cases_Bool r.accepted) [
     | inl done ↦ kept_same e result (MatchBool-at_true (IsKept learns r before now mid new result) (IsUndone r before now mid new result) done h)
     | inr undone ↦
         let k = MatchBool-at_false (IsKept learns r before now mid new result) (IsUndone r before now mid new result) undone h in
@@ -163,10 +163,10 @@ module _ (times more : ℕ) (learns : Known) (r : Reply) (before now : Known) (o
   ]
 
   -- an insert
-  pub insert_settles : (x : Stmt) → times ≡ length x.path + 2 → more ≡ 8 → StandsUnwritten x before run mid (Ok r)
-      → (result : Result Reply StopError) → Settles learns r before now mid new result → InsertsWithin x before old new result
-  insert_settles x t m already result h = record {
-    within = subst (λ n. OnOk result (WritesWithin n 8 old new)) t (subst (λ n. OnOk result (WritesWithin times n old new)) m (settled_writes result h));
-    refused = settled_unwritten learns r before now old run mid new began refused result h;
-    already = λ s a there. settled_same (already s (still_agrees old.kept run.kept before s began.kept a) there) result h;
+  pub insert_closes : (x : Stmt) → times ≡ length x.path + 2 → more ≡ 8 → StandsUnwritten x before run mid (Ok r)
+      → (result : Result Reply StopError) → Closes learns r before now mid new result → InsertsWithin x before old new result
+  insert_closes x t m already result h = record {
+    within = subst (λ n. OnOk result (WritesWithin n 8 old new)) t (subst (λ n. OnOk result (WritesWithin times n old new)) m (closed_writes result h));
+    refused = closed_unwritten learns r before now old run mid new began refused result h;
+    already = λ s a there. closed_same (already s (still_agrees old.kept run.kept before s began.kept a) there) result h;
   }

@@ -20,7 +20,7 @@ use Rattle.bdb_tables.proofs.RangeLemmas.{read_fits, spelled_under}
 use Rattle.bdb_tables.proofs.MarkLemmas.{number_at_end, long_enough}
 use Rattle.bdb_val.specs.Reads.{AreReadUnder, AreTold, HaveTuples}
 use Rattle.bdb_val.specs.WorldReads.{held_row}
-use Rattle.bdb_val.specs.declared.stored.Stored.{Stored}
+use Rattle.bdb_val.specs.declared.stored.StoredRow.{StoredRow}
 use Rattle.bdb_val.proofs.ToldLemmas.{Stands, entries_stand}
 
 -- ---- one read after another
@@ -106,12 +106,12 @@ with_tuple t key mark last tuple s e found = record {
 
 -- the rows with their tuples, as they are stored, and spelled
 pub record AreStored (t : Tables) (prefix : List ℕ) (rows : Listed) : Type 0 where
-  pub stored : List Stored
+  pub stored : List StoredRow
   pub read : AreReadUnder t prefix stored
   pub spelled : Spell rows (map held_row stored)
 
 pub record AreToldSo (t : Tables) (es : List (ValKey × Mark)) (rows : Listed) : Type 0 where
-  pub stored : List Stored
+  pub stored : List StoredRow
   pub told : AreTold t es stored
   pub spelled : Spell rows (map held_row stored)
 
@@ -123,7 +123,7 @@ told_so t grammar (m ∷ marks) (r ∷ rows) h z =
     let rest = told_so t grammar marks rows h.1 z.1 in
     let found = z.0.tuple h.0.key h.0.key_reads in
     let entry : IsEntryOf tuple_codec (num_bytes h.0.key.3) r.0 = grammar 4 (num_bytes h.0.key.3) r.0 found in
-    let here : Stored = record { tid = h.0.key.3; tuple = entry.row; mark = h.0.row } in
+    let here : StoredRow = record { tid = h.0.key.3; tuple = entry.row; mark = h.0.row } in
     record {
       stored = here ∷ rest.stored;
       told = (record { tid = refl; mark = refl; tuple = record { in_grammar = entry.row_reads.fits; found = found ∙ ap Some (sym entry.row_reads.spelled) } }, rest.told);
@@ -135,7 +135,7 @@ are_stored t prefix rows grammar raw =
     let told = told_so t grammar raw.stored rows (fits t prefix raw.stored grammar raw.under) raw.tuples in
     record { stored = told.stored; read = record { entries = entries raw.stored (fits t prefix raw.stored grammar raw.under); under = entries_under t prefix raw.stored grammar raw.under; told = told.told }; spelled = told.spelled }
 
-length_spelled : (rows : Listed) (stored : List Stored) → Spell rows (map held_row stored) → length rows ≡ length stored
+length_spelled : (rows : Listed) (stored : List StoredRow) → Spell rows (map held_row stored) → length rows ≡ length stored
 length_spelled [] [] z = refl
 length_spelled [] (s ∷ stored) z = absurd z
 length_spelled (r ∷ rows) [] z = absurd z

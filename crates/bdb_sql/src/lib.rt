@@ -8,7 +8,7 @@ pub mod laws;
 mod load;
 mod look;
 mod schema;
-mod told;
+mod keeper_error;
 mod write;
 
 pub use keeper::SqlKeeper;

@@ -239,7 +239,7 @@ but_for_large n r is h low = h (λ e. low (is ∙ ap status_of e))
 pub of_large : {X : Type 0} (n : ℕ) (r : Result Bool RunError) → n ≡ status_of r → (IsErrOf r Large → X) → n ≡ 8 → X
 of_large n r is h e = h (large_by n r is e)
 
--- a run over a base and a script that fit, with no fault, comes to its end or wants memory
+-- a run over a base and a script that fit, with no fault, comes to its end, or its memory runs out
 pub finishes_by : (n : ℕ) (before : Option (List ℕ)) (text : List ℕ) → n ≤ 8 → n ≢ 2 → n ≢ 3 → n ≢ 4 → n ≢ 5 → n ≢ 7
     → (n ≡ 8 → IfSome before (λ t. longest_script < length t)) → before ≡ Some text → length text ≤ longest_script → (n ≤ 1) ⊎ (n ≡ 6)
 finishes_by zero before text few a b c d e many is short = inl (omega arith)

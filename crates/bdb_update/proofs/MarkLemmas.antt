@@ -5,7 +5,7 @@ use Rattle.std.proofs.lemmas.Bool.{cases_Bool, cond-true, cond-false, eqb-true}
 use Rattle.bdb_base.specs.declared.kinds.Sign.{Sign}
 use Rattle.bdb_tables.specs.Marks.{Mark, explicit_of}
 use Rattle.bdb_val.specs.Settling.{mark_in}
-use Rattle.bdb_val.specs.declared.stored.Stored.{Stored}
+use Rattle.bdb_val.specs.declared.stored.StoredRow.{StoredRow}
 
 -- ---- marks and signs
 
@@ -20,7 +20,7 @@ explicit_is (Some m) s e = by m.1 refl
 -- ---- rows
 
 -- the row whose mark is found, with what holds of each row
-pub row_found : (Q : Stored → Type 0) (xs : List Stored) (tid : ℕ) (m : Mark) → AllByRecursion Q xs → mark_in xs tid ≡ Some m → (r : Stored) × (r.tid ≡ tid) × (r.mark ≡ m) × Q r
+pub row_found : (Q : StoredRow → Type 0) (xs : List StoredRow) (tid : ℕ) (m : Mark) → AllByRecursion Q xs → mark_in xs tid ≡ Some m → (r : StoredRow) × (r.tid ≡ tid) × (r.mark ≡ m) × Q r
 row_found Q [] tid m a e = absurd cc
 row_found Q (x ∷ xs) tid m a e = elim (cases_Bool (nat_eq x.tid tid)) [
   | inl c ↦
@@ -32,6 +32,6 @@ row_found Q (x ∷ xs) tid m a e = elim (cases_Bool (nat_eq x.tid tid)) [
     the_one : (a b : Mark) → Some a ≡ Some b → a ≡ b
     the_one a b e = cc
 
-pub both : (P Q : Stored → Type 0) (xs : List Stored) → AllByRecursion P xs → AllByRecursion Q xs → AllByRecursion (λ x. P x × Q x) xs
+pub both : (P Q : StoredRow → Type 0) (xs : List StoredRow) → AllByRecursion P xs → AllByRecursion Q xs → AllByRecursion (λ x. P x × Q x) xs
 both P Q [] p q = tt
 both P Q (x ∷ xs) p q = ((p.0, q.0), both P Q xs p.1 q.1)

@@ -35,7 +35,7 @@ use Rattle.bdb_val.proofs.HeldLemmas.{explicit_mark, held, held_names, right_row
 use Rattle.bdb_val.proofs.ReadLemmas.{key_fits}
 use Rattle.bdb_worlds.specs.Growth.{SameOutside}
 use Rattle.bdb_worlds.specs.Holding.{Worlds, HoldSome}
-use Rattle.bdb_worlds.specs.Shrinking.{without_prefixes, IsDead, AreDead, Stays, as_root, as_needed, HasShrunk, DropsStates}
+use Rattle.bdb_worlds.specs.Shrinking.{without_prefixes, IsDead, AreDead, StaysState, as_root, as_needed, HasShrunk, DropsStates}
 use Rattle.bdb_worlds.specs.Staying.{IsNeeded, by_row, by_longer}
 use Rattle.bdb_worlds.proofs.GrowLemmas.{take_split, length-take-is}
 use Rattle.bdb_worlds.proofs.ReadLemmas.{found_is}
@@ -309,7 +309,7 @@ module _ (t : Tables) (b : Contents) (x : Stmt) (h : HasParted t b x) (may : May
         needed n e (by_row r) = row_makes_state n (take s.left x.path) (names.numbered (take s.left x.path) n (number_before ns x.path (length x.path) gone (take s.left x.path) n e)) r
         needed n e (by_longer l) = longer l.user l.named
 
-        by : Stays t ms (take s.left x.path) → is_state less (take s.left x.path) ≡ true
+        by : StaysState t ms (take s.left x.path) → is_state less (take s.left x.path) ≡ true
         by (as_root e) = ap (is_state less) e
         by (as_needed n e r) = needed n e r
 

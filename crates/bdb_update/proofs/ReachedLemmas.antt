@@ -21,7 +21,7 @@ use Rattle.bdb_base.proofs.FindLemmas.{list_any-filter}
 use Rattle.bdb_base.proofs.UpdateLemmas.{without_keeps_order}
 use Rattle.bdb_update.specs.Calls.{are_apart}
 use Rattle.bdb_update.specs.Reached.{at_path, said_at, said_of}
-use Rattle.bdb_val.specs.declared.stored.Stored.{Stored}
+use Rattle.bdb_val.specs.declared.stored.StoredRow.{StoredRow}
 use Rattle.bdb_update.proofs.PartCountLemmas.{put_back}
 
 -- ---- lists
@@ -100,7 +100,7 @@ with_all xs [] zs = refl
 with_all xs (y ∷ ys) zs = with_all (with_statement xs y) ys zs
 
 -- one row more
-pub said_more : (w : List ℕ) (rows : List Stored) (r : Stored) → with_statements [] (said_at w (rows ++ r ∷ [])) ≡ with_statements (with_statements [] (said_at w rows)) (said_of w r)
+pub said_more : (w : List ℕ) (rows : List StoredRow) (r : StoredRow) → with_statements [] (said_at w (rows ++ r ∷ [])) ≡ with_statements (with_statements [] (said_at w rows)) (said_of w r)
 said_more w rows r =
     ap (with_statements []) (flat_map-append (said_of w) rows (r ∷ []) ∙ ap (λ xs. said_at w rows ++ xs) (append-nil (said_of w r)))
     ∙ with_all [] (said_at w rows) (said_of w r)

@@ -31,7 +31,7 @@ use Rattle.bdb_tables.specs.Rows.{Tuples, row_for}
 use Rattle.bdb_val.specs.Middle.{worlds_of, HasExplicit}
 use Rattle.bdb_val.specs.Reads.{AreReadUnder, IsSpan, world_prefix}
 use Rattle.bdb_val.specs.Settling.{mark_in, AreNamed}
-use Rattle.bdb_val.specs.declared.stored.Stored.{Stored}
+use Rattle.bdb_val.specs.declared.stored.StoredRow.{StoredRow}
 use Rattle.bdb_val.proofs.HeldLemmas.{held_rows_are_explicit}
 use Rattle.bdb_val.proofs.ReadLemmas.{read_named, read_mark, read_apart, world_span}
 use Rattle.bdb_val.proofs.StepLemmas.{mark_of_each}
@@ -49,7 +49,7 @@ use Rattle.bdb_update.proofs.OwnLemmas.{IsSaid}
 -- ---- the rows of a world and the statements of its path
 
 module _ (t : Tables) (b : Contents) (ns : Names) (ts : Tuples) (stored : StoredAs ns ts t b) (consistent : IsConsistent (keys_of b) b.stmts) (w : List ℕ) (wid : ℕ) (number : number_of ns w ≡ Some wid)
-    (rows : List Stored) (read : AreReadUnder t (world_prefix wid) rows) where
+    (rows : List StoredRow) (read : AreReadUnder t (world_prefix wid) rows) where
   abbrev held : ValKey → Option Mark
   held = row_for (keys_of b) b.stmts (path_of ns) ts.tuple
 
@@ -80,7 +80,7 @@ module _ (t : Tables) (b : Contents) (ns : Names) (ts : Tuples) (stored : Stored
   said : AllByRecursion (IsSaid b.stmts w) rows
   said = go rows tuples marks
     where
-      go : (rs : List Stored) → AreNamed ts.tuple rs → AllByRecursion (λ r. mark_in rows r.tid ≡ Some r.mark) rs → AllByRecursion (IsSaid b.stmts w) rs
+      go : (rs : List StoredRow) → AreNamed ts.tuple rs → AllByRecursion (λ r. mark_in rows r.tid ≡ Some r.mark) rs → AllByRecursion (IsSaid b.stmts w) rs
       go [] a m = tt
       go (r ∷ rs) a m = (
         (λ e. sign_is_explicit b.stmts w r.tuple r.mark.0
@@ -89,7 +89,7 @@ module _ (t : Tables) (b : Contents) (ns : Names) (ts : Tuples) (stored : Stored
       )
 
   -- each statement of the path has an explicit row, of which holds what holds of all
-  row_of : (Q : Stored → Type 0) → AllByRecursion Q rows → (v : Tuple) (s : Sign) → explicit b.stmts w v s ≡ true → (r : Stored) × (r.tuple ≡ v) × (r.mark ≡ (s, true)) × Q r
+  row_of : (Q : StoredRow → Type 0) → AllByRecursion Q rows → (v : Tuple) (s : Sign) → explicit b.stmts w v s ≡ true → (r : StoredRow) × (r.tuple ≡ v) × (r.mark ≡ (s, true)) × Q r
   row_of Q all v s e =
       let n = some_of (ts.number v) (stored.tuples.stated v ∙ explicit_tuple b.stmts w v s e) in
       let k = stored.tuples.numbered v n.0 n.1 in
@@ -101,7 +101,7 @@ module _ (t : Tables) (b : Contents) (ns : Names) (ts : Tuples) (stored : Stored
       same o p q = cc
 
   -- the statement that a row is, if it is explicit
-  abbrev made : Stored → Stmt
+  abbrev made : StoredRow → Stmt
   made r = record { path = w; sign = r.mark.0; tuple = r.tuple }
 
   module _ (z : Stmt) where
@@ -109,7 +109,7 @@ module _ (t : Tables) (b : Contents) (ns : Names) (ts : Tuples) (stored : Stored
     p y = is_eq (statement_cmp y z)
 
     -- a statement is among those that rows are only where it stands at the path
-    one_said : (r : Stored) → IsSaid b.stmts w r → list_any p (said_of w r) ≡ true → (same_path z.path w && stands b.stmts z) ≡ true
+    one_said : (r : StoredRow) → IsSaid b.stmts w r → list_any p (said_of w r) ≡ true → (same_path z.path w && stands b.stmts z) ≡ true
     one_said r h e = elim (cases_Bool r.mark.1) [
       | inr f ↦ absurd (false≢true (sym (ap (list_any p) (cond-false r.mark.1 (made r ∷ []) [] f)) ∙ e))
       | inl f ↦
@@ -123,17 +123,17 @@ module _ (t : Tables) (b : Contents) (ns : Names) (ts : Tuples) (stored : Stored
         only true e = refl
         only false e = e
 
-    some_said : (rs : List Stored) → AllByRecursion (IsSaid b.stmts w) rs → list_any p (said_at w rs) ≡ true → (same_path z.path w && stands b.stmts z) ≡ true
+    some_said : (rs : List StoredRow) → AllByRecursion (IsSaid b.stmts w) rs → list_any p (said_at w rs) ≡ true → (same_path z.path w && stands b.stmts z) ≡ true
     some_said [] a e = absurd (false≢true e)
     some_said (r ∷ rs) a e = elim (or_cases (list_any p (said_of w r)) (list_any p (said_at w rs)) (sym (list_any-append p (said_of w r) (said_at w rs)) ∙ e)) [
       | inl f ↦ one_said r a.0 f
       | inr f ↦ some_said rs a.1 f
     ]
 
-    abbrev IsAmong : Stored → Type 0
+    abbrev IsAmong : StoredRow → Type 0
     IsAmong r = list_any p (said_of w r) ≡ true → list_any p (said_at w rows) ≡ true
 
-    each_among : (rs : List Stored) → (list_any p (said_at w rs) ≡ true → list_any p (said_at w rows) ≡ true) → AllByRecursion IsAmong rs
+    each_among : (rs : List StoredRow) → (list_any p (said_at w rs) ≡ true → list_any p (said_at w rows) ≡ true) → AllByRecursion IsAmong rs
     each_among [] f = tt
     each_among (r ∷ rs) f = (
       (λ e. f (list_any-append p (said_of w r) (said_at w rs) ∙ or_left (list_any p (said_of w r)) (list_any p (said_at w rs)) e)),
@@ -191,7 +191,7 @@ state_number : (t : Tables) (w : List ℕ) (len wid : ℕ) → ReachesState t w 
 state_number t w len wid reaches b h s =
     world_if_any t w len wid reaches (record { users = is_user b.catalog.users; names = s.names }) s.stored.states h.users (s.stored.worlds w ∙ h.state)
 
-pub stand_at : (t u : Tables) (w : List ℕ) (len wid : ℕ) (rows : List Stored) (xs : List Stmt) → u ≡ t → ReachesState t w len wid → AreReadUnder u (world_prefix wid) rows
+pub stand_at : (t u : Tables) (w : List ℕ) (len wid : ℕ) (rows : List StoredRow) (xs : List Stmt) → u ≡ t → ReachesState t w len wid → AreReadUnder u (world_prefix wid) rows
     → xs ≡ with_statements [] (said_at w rows) → StandAt t w xs
 stand_at t u w len wid rows xs kept reaches read is b h =
     let s = h.stored in

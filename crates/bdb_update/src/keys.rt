@@ -18,7 +18,7 @@ use std::alloc::{AllocError, Global};
 pub const KEY_ROOM: usize = 64;
 
 /// The length of the key of a tuple's relation, where tables have its row. One read.
-pub fn key_length_of<K: Keeper>(
+pub fn read_key_length<K: Keeper>(
     alloc: Global,
     keeper: &mut K,
     tuple: &Tuple,

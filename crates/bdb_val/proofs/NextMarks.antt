@@ -15,7 +15,7 @@ use Rattle.bdb_tables.proofs.SignLemmas.{one_sign}
 use Rattle.bdb_val.specs.Settled.{passed_on, is_barred, settled_mark}
 use Rattle.bdb_val.specs.Settling.{mark_in, barred_by, AreNamed, IsGroup, AreNumbered, IsStatedAt, AreExplicit}
 use Rattle.bdb_val.specs.Laws.{NextMarksAreSettled}
-use Rattle.bdb_val.specs.declared.stored.Stored.{Stored}
+use Rattle.bdb_val.specs.declared.stored.StoredRow.{StoredRow}
 
 -- what contradicts is explicit, and clashes
 contradicting : (keys : ℕ → ℕ) (stmts : List Stmt) (w : List ℕ) (t : Tuple) (s : Sign) → contradicted keys stmts w t s ≡ true
@@ -55,7 +55,7 @@ pub one_tuple : (tuple : ℕ → Option Tuple) (a b : ℕ) (t u : Tuple) → tup
 one_tuple tuple a b t u p q e = let k : a ≡ b = eqb-true a b e in let l : tuple a ≡ tuple b = ap tuple k in cc
 
 -- an explicit row of a tuple bars what clashes with it
-row_bars : (keys : ℕ → ℕ) (tuple : ℕ → Option Tuple) (xs : List Stored) (tid : ℕ) (t t' : Tuple) (s s' : Sign) → AreNamed tuple xs → tuple tid ≡ Some t'
+row_bars : (keys : ℕ → ℕ) (tuple : ℕ → Option Tuple) (xs : List StoredRow) (tid : ℕ) (t t' : Tuple) (s s' : Sign) → AreNamed tuple xs → tuple tid ≡ Some t'
     → explicit_of (mark_in xs tid) ≡ Some s' → clash keys t s t' s' ≡ true → barred_by keys xs t s ≡ true
 row_bars keys tuple [] tid t t' s s' n e m c = absurd (none_is_some s' m)
 row_bars keys tuple (x ∷ xs) tid t t' s s' n e m c = elim (cases_Bool (nat_eq x.tid tid)) [
@@ -69,7 +69,7 @@ row_bars keys tuple (x ∷ xs) tid t t' s s' n e m c = elim (cases_Bool (nat_eq 
 ]
 
 -- what bars is a statement of the path
-bars_contradict : (keys : ℕ → ℕ) (stmts : List Stmt) (w : List ℕ) (xs : List Stored) (t : Tuple) (s : Sign) → AllByRecursion (IsStatedAt stmts w) xs
+bars_contradict : (keys : ℕ → ℕ) (stmts : List Stmt) (w : List ℕ) (xs : List StoredRow) (t : Tuple) (s : Sign) → AllByRecursion (IsStatedAt stmts w) xs
     → contradicted keys stmts w t s ≡ false → barred_by keys xs t s ≡ false
 bars_contradict keys stmts w [] t s n e = refl
 bars_contradict keys stmts w (x ∷ xs) t s n e = false_from_ne_true (barred_by keys (x ∷ xs) t s) (λ h.
@@ -80,7 +80,7 @@ bars_contradict keys stmts w (x ∷ xs) t s n e = false_from_ne_true (barred_by 
       | inr b ↦ false≢true (sym (bars_contradict keys stmts w xs t s n.1 e) ∙ b)
     ])
 
-same_bars : (keys : ℕ → ℕ) (stmts : List Stmt) (tuple : ℕ → Option Tuple) (test : Tuple → Bool) (own : List Stored) (w : List ℕ)
+same_bars : (keys : ℕ → ℕ) (stmts : List Stmt) (tuple : ℕ → Option Tuple) (test : Tuple → Bool) (own : List StoredRow) (w : List ℕ)
     → IsConsistent keys stmts → IsGroup keys test → AreNumbered tuple stmts → AreExplicit tuple test stmts w own
     → (t : Tuple) (s : Sign) → test t ≡ true → barred_by keys own t s ≡ contradicted keys stmts w t s
 same_bars keys stmts tuple test own w c g n x t s e = elim (cases_Bool (contradicted keys stmts w t s)) [

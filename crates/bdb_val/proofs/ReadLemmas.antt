@@ -36,7 +36,7 @@ use Rattle.bdb_tables.specs.GroupMarks.{group_bytes}
 use Rattle.bdb_tables.proofs.ListLemmas.{prefix_append, prefix_rest}
 use Rattle.bdb_val.specs.Settling.{mark_in, AreNamed, are_apart, row_key}
 use Rattle.bdb_val.specs.Reads.{AreTold, AreReadUnder, HasRows, IsSpan, world_prefix, is_of_group}
-use Rattle.bdb_val.specs.declared.stored.Stored.{Stored}
+use Rattle.bdb_val.specs.declared.stored.StoredRow.{StoredRow}
 
 -- the rows as they are found by the bytes of their keys
 abbrev pub rows_at : List (ValKey × Mark) → List ℕ → Option (List ℕ)
@@ -78,14 +78,14 @@ module _ (keys : ℕ → ℕ) (tuple : ℕ → Option Tuple) (f : ValKey → Opt
       one None w e = absurd (none_is_some (tuple_bytes u) e)
       one (Some v) w e = ap Some (tuple_rows_are_one v u w r.in_grammar (same_some (tuple_bytes v) (tuple_bytes u) e))
 
-  told_named : (prefix : List ℕ) (es : List (ValKey × Mark)) (xs : List Stored) → AllByRecursion (IsUnder val_codec prefix) es → AreTold t es xs → AreNamed tuple xs
+  told_named : (prefix : List ℕ) (es : List (ValKey × Mark)) (xs : List StoredRow) → AllByRecursion (IsUnder val_codec prefix) es → AreTold t es xs → AreNamed tuple xs
   told_named prefix [] [] a r = tt
   told_named prefix [] (x ∷ xs) a r = absurd r
   told_named prefix (e ∷ es) [] a r = absurd r
   told_named prefix (e ∷ es) (x ∷ xs) a r = (tuple_named x.tid x.tuple (subst IsNum (sym r.0.tid) a.0.key.tuple) r.0.tuple, told_named prefix es xs a.1 r.1)
 
   -- rows that were read have the tuples of their numbers
-  pub read_named : (prefix : List ℕ) (xs : List Stored) → AreReadUnder t prefix xs → AreNamed tuple xs
+  pub read_named : (prefix : List ℕ) (xs : List StoredRow) → AreReadUnder t prefix xs → AreNamed tuple xs
   read_named prefix xs r = told_named prefix r.entries xs r.under.each r.told
 
   -- ---- each entry has its tuple's key
@@ -117,7 +117,7 @@ module _ (keys : ℕ → ℕ) (tuple : ℕ → Option Tuple) (f : ValKey → Opt
       sym k.2 ∙ ap (λ x. row_key keys x e.0.3 k.0) w ∙ ap (λ x. row_key keys wid x k.0) i ∙ ap (λ x. row_key keys wid tid x) (one_number tuple e.0.3 tid k.0 u k.1 n i)
 
   mark_found : (wid tid : ℕ) (u : Tuple) (prefix : List ℕ) → IsValKey (row_key keys wid tid u) → tuple tid ≡ Some u → ((k : ValKey) → IsValKey k → is_prefix prefix (val_bytes k) ≡ true → k.0 ≡ wid)
-      → (es : List (ValKey × Mark)) (xs : List Stored) → AllByRecursion (IsUnder val_codec prefix) es → AllByRecursion HasKey es → AreTold t es xs
+      → (es : List (ValKey × Mark)) (xs : List StoredRow) → AllByRecursion (IsUnder val_codec prefix) es → AllByRecursion HasKey es → AreTold t es xs
       → rows_at es (val_bytes (row_key keys wid tid u)) ≡ option_map mark_bytes (mark_in xs tid)
   mark_found wid tid u prefix v n w [] [] a k r = refl
   mark_found wid tid u prefix v n w [] (x ∷ xs) a k r = absurd r
@@ -158,7 +158,7 @@ module _ (keys : ℕ → ℕ) (tuple : ℕ → Option Tuple) (f : ValKey → Opt
   one_mark (Some m) (Some n) e = ap Some (mark_rows_are_one m n tt tt (same_some (mark_bytes m) (mark_bytes n) e))
 
   -- the mark of a tuple's row among those that were read is the one that the tables give
-  pub read_mark : (wid : ℕ) (test : Tuple → Bool) (prefix : List ℕ) (xs : List Stored) → IsNum wid → IsSpan keys wid test prefix → AreReadUnder t prefix xs
+  pub read_mark : (wid : ℕ) (test : Tuple → Bool) (prefix : List ℕ) (xs : List StoredRow) → IsNum wid → IsSpan keys wid test prefix → AreReadUnder t prefix xs
       → (tid : ℕ) (u : Tuple) → tuple tid ≡ Some u → test u ≡ true → mark_in xs tid ≡ f (row_key keys wid tid u)
   read_mark wid test prefix xs w s r tid u n e =
       let key = row_key keys wid tid u in
@@ -173,7 +173,7 @@ module _ (keys : ℕ → ℕ) (tuple : ℕ → Option Tuple) (f : ValKey → Opt
   not_below_itself b e = true≢false (sym e ∙ ap is_lt (tied b b refl))
 
   apart : (prefix : List ℕ) (wid : ℕ) → ((k : ValKey) → IsValKey k → is_prefix prefix (val_bytes k) ≡ true → k.0 ≡ wid)
-      → (es : List (ValKey × Mark)) (xs : List Stored) → AllByRecursion (IsUnder val_codec prefix) es → AllByRecursion HasKey es → ascending (entry_cmp val_codec) es ≡ true → AreTold t es xs
+      → (es : List (ValKey × Mark)) (xs : List StoredRow) → AllByRecursion (IsUnder val_codec prefix) es → AllByRecursion HasKey es → ascending (entry_cmp val_codec) es ≡ true → AreTold t es xs
       → are_apart xs ≡ true
   apart prefix wid w [] [] a k s r = refl
   apart prefix wid w [] (x ∷ xs) a k s r = absurd r
@@ -182,7 +182,7 @@ module _ (keys : ℕ → ℕ) (tuple : ℕ → Option Tuple) (f : ValKey → Opt
       let p = and_parts (list_all (λ y. is_lt (entry_cmp val_codec e y)) es) (ascending (entry_cmp val_codec) es) s in
       cond-false (list_any (λ y. nat_eq y.tid x.tid) xs) false (are_apart xs) (none es xs a.1 k.1 p.0 r.1) ∙ apart prefix wid w es xs a.1 k.1 p.1 r.1
     where
-      none : (ds : List (ValKey × Mark)) (ys : List Stored) → AllByRecursion (IsUnder val_codec prefix) ds → AllByRecursion HasKey ds
+      none : (ds : List (ValKey × Mark)) (ys : List StoredRow) → AllByRecursion (IsUnder val_codec prefix) ds → AllByRecursion HasKey ds
           → list_all (λ y. is_lt (entry_cmp val_codec e y)) ds ≡ true → AreTold t ds ys → list_any (λ y. nat_eq y.tid x.tid) ys ≡ false
       none [] [] b l m q = refl
       none [] (y ∷ ys) b l m q = absurd q
@@ -196,11 +196,11 @@ module _ (keys : ℕ → ℕ) (tuple : ℕ → Option Tuple) (f : ValKey → Opt
           not_below_itself (val_bytes e.0) (ap (λ (z : ValKey). is_lt (bytes_cmp (val_bytes e.0) (val_bytes z))) (sym k.0.2 ∙ sym same) ∙ here.0)))
           (none ds ys b.1 l.1 here.1 q.1)
 
-  pub read_apart : (wid : ℕ) (test : Tuple → Bool) (prefix : List ℕ) (xs : List Stored) → IsSpan keys wid test prefix → AreReadUnder t prefix xs → are_apart xs ≡ true
+  pub read_apart : (wid : ℕ) (test : Tuple → Bool) (prefix : List ℕ) (xs : List StoredRow) → IsSpan keys wid test prefix → AreReadUnder t prefix xs → are_apart xs ≡ true
   read_apart wid test prefix xs s r = apart prefix wid s.world r.entries xs r.under.each (keyed_under prefix r.entries r.under) r.under.sorted r.told
 
   -- rows that were read pass the test
-  tested : (prefix : List ℕ) (wid : ℕ) (test : Tuple → Bool) → IsSpan keys wid test prefix → (es : List (ValKey × Mark)) (xs : List Stored) → AllByRecursion (IsUnder val_codec prefix) es
+  tested : (prefix : List ℕ) (wid : ℕ) (test : Tuple → Bool) → IsSpan keys wid test prefix → (es : List (ValKey × Mark)) (xs : List StoredRow) → AllByRecursion (IsUnder val_codec prefix) es
       → AllByRecursion HasKey es → AreTold t es xs → AllByRecursion (λ x. test x.tuple ≡ true) xs
   tested prefix wid test s [] [] a k r = tt
   tested prefix wid test s [] (x ∷ xs) a k r = absurd r
@@ -210,7 +210,7 @@ module _ (keys : ℕ → ℕ) (tuple : ℕ → Option Tuple) (f : ValKey → Opt
       let same : e.0 ≡ row_key keys wid x.tid x.tuple = key_here wid x.tid x.tuple e k.0 (s.world e.0 a.0.key a.0.begins) n (sym r.0.tid) in
       (s.inside x.tid x.tuple (tuple_row x.tid x.tuple n) (ap (λ (z : ValKey). is_prefix prefix (val_bytes z)) (sym same) ∙ a.0.begins), tested prefix wid test s es xs a.1 k.1 r.1)
 
-  pub told_tested : (wid : ℕ) (test : Tuple → Bool) (prefix : List ℕ) (xs : List Stored) → IsSpan keys wid test prefix → AreReadUnder t prefix xs → AllByRecursion (λ x. test x.tuple ≡ true) xs
+  pub told_tested : (wid : ℕ) (test : Tuple → Bool) (prefix : List ℕ) (xs : List StoredRow) → IsSpan keys wid test prefix → AreReadUnder t prefix xs → AllByRecursion (λ x. test x.tuple ≡ true) xs
   told_tested wid test prefix xs s r = tested prefix wid test s r.entries xs r.under.each (keyed_under prefix r.entries r.under) r.told
 
 -- ---- the keys of a world, and of a group

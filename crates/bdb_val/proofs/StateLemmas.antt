@@ -23,7 +23,7 @@ use Rattle.bdb_val.specs.Reads.{AreTold, HaveTuples}
 use Rattle.bdb_val.specs.Settling.{mark_in, same_mark}
 use Rattle.bdb_val.specs.Steps.{turns_from, comes, goes, turns, is_new, is_gone, Tells}
 use Rattle.bdb_val.specs.declared.stored.SettledWorld.{SettledWorld}
-use Rattle.bdb_val.specs.declared.stored.Stored.{Stored}
+use Rattle.bdb_val.specs.declared.stored.StoredRow.{StoredRow}
 use Rattle.bdb_val.proofs.GroupLemmas.{mark_told}
 use Rattle.bdb_val.proofs.SettlingLemmas.{all_flat_map}
 use Rattle.bdb_val.proofs.ToldLemmas.{Stands, entries_stand}
@@ -117,7 +117,7 @@ fits_at t wid (Some m) h = h.in_grammar
 -- ---- what is told
 
 -- what is told by numbers is told of the rows with their tuples
-pub group_tells : (t : Tables) (wid rel : ℕ) (v : List Value) (es : List (ℕ × Mark)) (xs : List Stored) (made : List (ℕ × Option Mark)) (s : SettledWorld) → AreTold t (map (in_group wid rel v) es) xs
+pub group_tells : (t : Tables) (wid rel : ℕ) (v : List Value) (es : List (ℕ × Mark)) (xs : List StoredRow) (made : List (ℕ × Option Mark)) (s : SettledWorld) → AreTold t (map (in_group wid rel v) es) xs
     → TellsMarks (mark_under es) made s → Tells (mark_in xs) (map (in_group wid rel v) made) s
 group_tells t wid rel v es xs made s a h = record {
   turned = h.turned ∙ any_keyed (turns_at (mark_under es)) (turns (mark_in xs)) (λ x. ap (λ m. turns_from m x.1) (mark_told t wid rel v es xs a x.0)) made;

@@ -31,7 +31,7 @@ use Rattle.bdb_val.specs.Settled.{settled_mark, passed_on, sign_at}
 use Rattle.bdb_val.specs.Settling.{RowChange, mark_in, settling, last_mark, IsGroup, row_key, keyed}
 use Rattle.bdb_val.specs.Steps.{AreSpans, same_signs, turns}
 use Rattle.bdb_val.specs.Walks.{IsVisit, IsQuiet, changes_of}
-use Rattle.bdb_val.specs.declared.stored.Stored.{Stored}
+use Rattle.bdb_val.specs.declared.stored.StoredRow.{StoredRow}
 use Rattle.bdb_val.proofs.HeldLemmas.{names_are_linked}
 use Rattle.bdb_val.proofs.ReadLemmas.{one_number, key_fits}
 use Rattle.bdb_val.proofs.StepLemmas.{IsOf, after_changes, other_rows, made_of, own_mark, gives_after, settled_after}
@@ -147,7 +147,7 @@ last_sign (c ∷ cs) tid m z a e = last_sign cs tid (cond (nat_eq c.0 tid) c.2 m
   | inr k ↦ ap sign_of (cond-false (nat_eq c.0 tid) c.2 m k) ∙ e
 ])
 
-quiet_each : (keys : ℕ → ℕ) (wid : ℕ) (own : List Stored) (cs : List RowChange) → list_any (turns (mark_in own)) (map (keyed keys wid) cs) ≡ false → (tid : ℕ)
+quiet_each : (keys : ℕ → ℕ) (wid : ℕ) (own : List StoredRow) (cs : List RowChange) → list_any (turns (mark_in own)) (map (keyed keys wid) cs) ≡ false → (tid : ℕ)
     → AllByRecursion (λ c. nat_eq c.0 tid ≡ true → sign_of c.2 ≡ sign_of (mark_in own tid)) cs
 quiet_each keys wid own [] q tid = tt
 quiet_each keys wid own (c ∷ cs) q tid =

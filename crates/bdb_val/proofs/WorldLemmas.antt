@@ -36,7 +36,7 @@ use Rattle.bdb_tables.specs.Rows.{AreKeyLengths, Tuples, HoldsTuples, HoldsRows,
 use Rattle.bdb_val.specs.Reads.{HasRows, AreReadUnder, world_prefix}
 use Rattle.bdb_val.specs.Settling.{mark_in, AreNamed, are_apart}
 use Rattle.bdb_val.specs.WorldReads.{held_row, is_before, AreInOrder, AreRowsAt}
-use Rattle.bdb_val.specs.declared.stored.Stored.{Stored}
+use Rattle.bdb_val.specs.declared.stored.StoredRow.{StoredRow}
 use Rattle.bdb_val.proofs.HeldLemmas.{held_names, right_row}
 use Rattle.bdb_val.proofs.ReadLemmas.{read_named, read_apart, read_mark, world_span}
 use Rattle.bdb_val.proofs.StepLemmas.{mark_of_each}
@@ -182,12 +182,12 @@ mark_has keys stmts w u Minus c e =
 
 -- ---- the rows that are read
 
-has_mapped : (xs : List Stored) (h : Held) → has_row (map held_row xs) h ≡ list_any (λ x. same_row h (held_row x)) xs
+has_mapped : (xs : List StoredRow) (h : Held) → has_row (map held_row xs) h ≡ list_any (λ x. same_row h (held_row x)) xs
 has_mapped [] h = refl
 has_mapped (x ∷ xs) h = ap (λ b. same_row h (held_row x) || b) (has_mapped xs h)
 
 -- where numbers stand once, tuples do
-tuples_once : (ts : Tuples) → ((tid : ℕ) (u : Tuple) → ts.tuple tid ≡ Some u → ts.number u ≡ Some tid) → (xs : List Stored) → AreNamed ts.tuple xs → are_apart xs ≡ true
+tuples_once : (ts : Tuples) → ((tid : ℕ) (u : Tuple) → ts.tuple tid ≡ Some u → ts.number u ≡ Some tid) → (xs : List StoredRow) → AreNamed ts.tuple xs → are_apart xs ≡ true
     → (u : Tuple) → length (filter (λ h. same_tuple h.tuple u) (map held_row xs)) ≤ 1
 tuples_once ts named [] n a u = omega arith
 tuples_once ts named (x ∷ xs) n a u =
@@ -209,7 +209,7 @@ tuples_once ts named (x ∷ xs) n a u =
     apart_here true q e = absurd (false≢true e)
     apart_here false q e = q
 
-    none : (ys : List Stored) → AreNamed ts.tuple ys → list_any (λ y. nat_eq y.tid x.tid) ys ≡ false → same_tuple x.tuple u ≡ true → length (filter (λ h. same_tuple h.tuple u) (map held_row ys)) ≤ 0
+    none : (ys : List StoredRow) → AreNamed ts.tuple ys → list_any (λ y. nat_eq y.tid x.tid) ys ≡ false → same_tuple x.tuple u ≡ true → length (filter (λ h. same_tuple h.tuple u) (map held_row ys)) ≤ 0
     none [] m q e = omega arith
     none (y ∷ ys) m q e =
         let p = or_parts (nat_eq y.tid x.tid) (list_any (λ z. nat_eq z.tid x.tid) ys) q in
@@ -223,7 +223,7 @@ filtered_moved : (p : Held → Bool) (xs ys : List Held) → IsPermutation xs ys
 filtered_moved p xs ys h = length-filter p ys ∙ sum_by-IsPermutation (λ x. cond (p x) 1 0) xs ys h ∙ sym (length-filter p xs)
 
 module _ (keys : ℕ → ℕ) (stmts : List Stmt) (ns : Names) (ts : Tuples) (t : Tables) (lengths : AreKeyLengths keys) (consistent : IsConsistent keys stmts) (h : HoldsTuples stmts ts t) (r : HoldsRows keys stmts (path_of ns) ts.tuple t)
-    (wid : ℕ) (n : IsNum wid) (w : List ℕ) (path : path_of ns wid ≡ Some w) (xs : List Stored) (read : AreReadUnder t (world_prefix wid) xs) where
+    (wid : ℕ) (n : IsNum wid) (w : List ℕ) (path : path_of ns wid ≡ Some w) (xs : List StoredRow) (read : AreReadUnder t (world_prefix wid) xs) where
   abbrev f : ValKey → Option Mark
   f = row_for keys stmts (path_of ns) ts.tuple
 
@@ -241,7 +241,7 @@ module _ (keys : ℕ → ℕ) (stmts : List Stmt) (ns : Names) (ts : Tuples) (t 
   mark_right tid u e = read_mark keys ts.tuple f t rows wid (λ _. true) (world_prefix wid) xs n (world_span keys wid n) read tid u e refl ∙ right_row keys stmts stmts ns ts t h wid w tid u path e
 
   -- each row that is read is one of the world
-  read_are_rows : (ys : List Stored) → AreNamed ts.tuple ys → AllByRecursion (λ x. mark_in xs x.tid ≡ Some x.mark) ys → (g : Held) → list_any (λ x. same_row g (held_row x)) ys ≡ true
+  read_are_rows : (ys : List StoredRow) → AreNamed ts.tuple ys → AllByRecursion (λ x. mark_in xs x.tid ≡ Some x.mark) ys → (g : Held) → list_any (λ x. same_row g (held_row x)) ys ≡ true
       → has_row (world_of keys stmts w) g ≡ true
   read_are_rows [] a b g e = absurd (false≢true e)
   read_are_rows (y ∷ ys) a b g e = elim (or_cases (same_row g (held_row y)) (list_any (λ x. same_row g (held_row x)) ys) e) [
@@ -271,7 +271,7 @@ module _ (keys : ℕ → ℕ) (stmts : List Stmt) (ns : Names) (ts : Tuples) (t 
       some_tuple : (a b : Tuple) (o : Option Tuple) → o ≡ Some a → o ≡ Some b → a ≡ b
       some_tuple a b o p q = cc
 
-      go : (ys : List Stored) → AreNamed ts.tuple ys → (tid : ℕ) → ts.tuple tid ≡ Some g.tuple → mark_in ys tid ≡ Some (g.sign, g.explicit) → list_any (λ x. same_row g (held_row x)) ys ≡ true
+      go : (ys : List StoredRow) → AreNamed ts.tuple ys → (tid : ℕ) → ts.tuple tid ≡ Some g.tuple → mark_in ys tid ≡ Some (g.sign, g.explicit) → list_any (λ x. same_row g (held_row x)) ys ≡ true
       go [] a tid q k = absurd (none_and_some (g.sign, g.explicit) None refl k)
       go (y ∷ ys) a tid q k = elim (cases_Bool (nat_eq y.tid tid)) [
         | inl c ↦
@@ -298,9 +298,9 @@ module _ (keys : ℕ → ℕ) (stmts : List Stmt) (ns : Names) (ts : Tuples) (t 
       (read_are_rows xs named (mark_of_each xs xs (λ _ _ k. k) apart) g) (row_is_read g))
 
 -- what is read of a world, in order, are the rows of the world of its path
-pub read_is_world : (t : Tables) (wid : ℕ) (xs : List Stored) (held : List Held) → IsNum wid → AreReadUnder t (world_prefix wid) xs → AreInOrder xs held → AreRowsAt t wid held
+pub read_is_world : (t : Tables) (wid : ℕ) (xs : List StoredRow) (held : List Held) → IsNum wid → AreReadUnder t (world_prefix wid) xs → AreInOrder xs held → AreRowsAt t wid held
 read_is_world t wid xs held n read o keys stmts ns ts w lengths consistent names h r path = ordered_is_world keys stmts ns ts t lengths consistent h r wid n w path xs read held o
 
 -- as many rows are shown as were read
-pub read_within : (a b : ℕ) (xs : List Stored) (held : List Held) → AreInOrder xs held → b ≤ a + (2 * length xs + 1) → b ≤ a + (2 * length held + 1)
+pub read_within : (a b : ℕ) (xs : List StoredRow) (held : List Held) → AreInOrder xs held → b ≤ a + (2 * length xs + 1) → b ≤ a + (2 * length held + 1)
 read_within a b xs held o le = subst (λ n. b ≤ a + (2 * n + 1)) (sym (length_permutation (map held_row xs) held o.moved ∙ length_map held_row xs)) le

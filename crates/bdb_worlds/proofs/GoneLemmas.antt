@@ -24,7 +24,7 @@ use Rattle.bdb_names.proofs.LessLemmas.{depths_less, links_less, edges_less, nam
 use Rattle.bdb_names.proofs.NameLemmas.{same_number, edge_found, link_found}
 use Rattle.bdb_names.proofs.NamedLemmas.{cases_end}
 use Rattle.bdb_names.proofs.TurnedLemmas.{link_set_is, edge_set_is, tables_same, same_edge_is}
-use Rattle.bdb_worlds.specs.Dropping.{pairs_led, edges_dropped, state_dropped, pairs_of, kids_of, edges_of, AreRowsOf, without_state, IsDroppedState, DropTakesState}
+use Rattle.bdb_worlds.specs.Dropping.{pairs_led, edges_dropped, state_dropped, pairs_of, kids_of, edges_of, AreWorldRows, without_state, IsDroppedState, DropTakesState}
 use Rattle.bdb_worlds.specs.Holding.{Worlds}
 use Rattle.bdb_worlds.proofs.ReadLemmas.{link_read}
 use Rattle.bdb_worlds.proofs.UnderLemmas.{is_pair, are_pairs_once, kids_are, kids_sized, kids_once, pairs_are, pairs_sized, pairs_once, edges_are, edges_sized, edges_once}
@@ -149,7 +149,7 @@ module _ (w : Worlds) (t : Tables) (h : HoldsStates w.users w.names t) (p : List
             false≢true (sym f.apart ∙ ap (is_suffix (j ∷ [])) (front ∙ u.2) ∙ ap (λ x. is_suffix (j ∷ []) (u.0 ++ x ∷ [])) same ∙ ends_with u.0 (j ∷ []))
       ]
 
-  module _ (led : List ((ℕ × ℕ × ℕ) × Unit {0})) (linked : List ((ℕ × ℕ) × Unit {0})) (own : List ((ℕ × ℕ) × ℕ)) (rows : AreRowsOf t n s led linked own) where
+  module _ (led : List ((ℕ × ℕ × ℕ) × Unit {0})) (linked : List ((ℕ × ℕ) × Unit {0})) (own : List ((ℕ × ℕ) × ℕ)) (rows : AreWorldRows t n s led linked own) where
     abbrev es : List (ℕ × ℕ)
     es = pairs_of led
 
