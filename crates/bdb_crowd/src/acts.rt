@@ -11,7 +11,7 @@ ghost use Rattle.bdb_session.specs.Known.{Agrees, RemembersSome};
 ghost use Rattle.bdb_session.specs.Outcome.{State};
 ghost use Rattle.bdb_crowd.specs.Due.{IsDone, IsRunBy, IsTold, IsWaiting, due_to, end_line};
 
-use crate::write::{write_count, write_line, write_labelled};
+use crate::write::{write_count, write_labelled, write_line};
 use bdb_base::List;
 use bdb_io::{Failed, Sink};
 use bdb_keep::Keeper;

@@ -27,7 +27,12 @@ pub fn are_settled(
 }
 
 // Whether each inherited row is passed on from the other world.
-fn all_fit(catalog: &Catalog, stated: &[StoredRow], inherited: &[StoredRow], from: &[StoredRow]) -> bool
+fn all_fit(
+    catalog: &Catalog,
+    stated: &[StoredRow],
+    inherited: &[StoredRow],
+    from: &[StoredRow],
+) -> bool
     requires { are_apart from.now ≡ true }
     ensures { result ≡ list_all (is_fitting (key_lengths catalog.now.rels) stated.now from.now)
         inherited.now }
@@ -69,7 +74,12 @@ fn has_sign(sign: Sign, mark: Option<(Sign, bool)>) -> bool
 }
 
 // Whether each row of the other world is passed on, or clashes with an explicit one.
-fn all_passed(catalog: &Catalog, stated: &[StoredRow], inherited: &[StoredRow], from: &[StoredRow]) -> bool
+fn all_passed(
+    catalog: &Catalog,
+    stated: &[StoredRow],
+    inherited: &[StoredRow],
+    from: &[StoredRow],
+) -> bool
     ensures { result ≡ list_all (is_passed (key_lengths catalog.now.rels) stated.now inherited.now)
         from.now }
 {

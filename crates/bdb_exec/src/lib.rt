@@ -1,6 +1,7 @@
 //! Running plans over tables: the rows that a plan means, over what the tables of a keeper show.
 #![tactic(auto)]
 
+mod deciding;
 mod errors;
 mod executing;
 mod keys;
@@ -11,7 +12,6 @@ mod passing;
 mod prefixes;
 mod reading;
 mod running;
-mod deciding;
 mod shared;
 mod slots;
 mod state;

@@ -12,9 +12,9 @@ ghost use Rattle.bdb_exec.specs.Memos.{Recalls};
 ghost use Rattle.bdb_exec.specs.Readable.{CanBeRun};
 ghost use Rattle.bdb_exec.specs.Seen.{sight_of};
 
+use crate::deciding::decide;
 use crate::memo::Memo;
 use crate::reading::choices;
-use crate::deciding::decide;
 use crate::shared::Shared;
 use crate::state::State;
 use bdb_base::{List, Ref};

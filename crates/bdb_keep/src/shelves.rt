@@ -43,7 +43,11 @@ pub fn read(
 
 /// Where a place stands or would stand, and the row there, if there is one.
 #[inline(always)]
-pub fn row_at<'a>(shelves: &'a [Shelf], near: CursorPair, probe: &Probe<'_>) -> (Cursor, Option<&'a [u8]>)
+pub fn row_at<'a>(
+    shelves: &'a [Shelf],
+    near: CursorPair,
+    probe: &Probe<'_>,
+) -> (Cursor, Option<&'a [u8]>)
     requires { AreSorted shelves.now }
     ensures { option_copied result.1 ≡ row_of (place_at (joined shelves.now) probe.now) }
 {
@@ -445,7 +449,11 @@ fn after_cut(cursor: Cursor, middle: usize) -> Cursor {
 
 /// Where the first place stands that has a row and isn't below the one that is looked for, and its entry.
 #[inline(always)]
-fn first_row<'a>(shelves: &'a [Shelf], near: CursorPair, probe: &Probe<'_>) -> Option<(Cursor, &'a Entry)>
+fn first_row<'a>(
+    shelves: &'a [Shelf],
+    near: CursorPair,
+    probe: &Probe<'_>,
+) -> Option<(Cursor, &'a Entry)>
     requires { AreSorted shelves.now }
     ensures found { IfSome result (λ first. IsFirstRow (joined shelves.now) probe.now first.1.now) }
     ensures none { IfNone result (NoRowFrom probe.now (joined shelves.now)) }

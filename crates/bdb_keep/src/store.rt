@@ -7,7 +7,7 @@ ghost use Rattle.bdb_keep.specs.Marked.{IsMarkedCount};
 ghost use Rattle.bdb_keep.specs.Spans.{AreRowsUnder, with_rows, without_rows};
 ghost use Rattle.bdb_keep.specs.Tables.{IsLeastFrom, NoneFrom};
 
-use crate::changes::{PlaceChange, insert_row, put_row, roll_back, forget, take_row};
+use crate::changes::{PlaceChange, forget, insert_row, put_row, roll_back, take_row};
 use crate::keeper::KeyEnd;
 use crate::many::{put_rows, take_rows};
 use crate::place::Place;

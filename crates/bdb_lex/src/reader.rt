@@ -5,8 +5,8 @@ ghost use Rattle.bdb_lex.specs.Reading.{begins, begins_gap, Reads};
 
 use crate::bytes::{is_digit, is_letter};
 use crate::gap::behind_gaps;
-use crate::symbol::symbol_behind;
 use crate::quoted::text_behind;
+use crate::symbol::symbol_behind;
 use crate::token::{LexError, Token};
 use crate::word::{num_at, word_at};
 use bdb_base::List;

@@ -8,8 +8,8 @@ ghost use Rattle.sqlite.specs.Files.{file_state, over_files};
 ghost use Rattle.sqlite.specs.State.{HasCleanDisk, Opens};
 
 use crate::keeper::SqlKeeper;
-use crate::look::{Sight, look_at};
 use crate::keeper_error::keeper_error;
+use crate::look::{Sight, look_at};
 use bdb_keep::KeepError;
 use sqlite::{Connection, File, FileFrom, FileStore, Start, Unknown};
 use std::alloc::Global;

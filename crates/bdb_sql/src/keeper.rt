@@ -14,8 +14,8 @@ ghost use Rattle.bdb_sql.specs.Tied.{MatchesFile, MayStore, StandsWhole, StoresR
 ghost use Rattle.sqlite.specs.State.{HasCleanDisk, Survives};
 ghost use Rattle.sqlite.specs.Held.{state};
 
-use crate::load::load;
 use crate::keeper_error::keeper_error;
+use crate::load::load;
 use crate::write::write_changes;
 use bdb_keep::{KeepError, Keeper, KeyEnd, Ledger, Span, Store};
 use sqlite::{Alter, Connection};

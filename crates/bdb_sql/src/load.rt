@@ -10,9 +10,9 @@ ghost use Rattle.bdb_sql.specs.Rows.{AreRowsOf, Stores, entry};
 ghost use Rattle.bdb_sql.specs.Stays.{StaysAs};
 ghost use Rattle.bdb_sql.specs.Tied.{IsTied, IsWhole};
 
+use crate::keeper_error::keeper_error;
 use crate::kept::{LONGEST, SELECT};
 use crate::schema::{FileSchema, schema_of};
-use crate::keeper_error::keeper_error;
 use bdb_keep::{KeepError, Store};
 use sqlite::types::ValueRef;
 use sqlite::{Alter, Connection, Error, ErrorCode, Row};

@@ -69,7 +69,12 @@ fn summary_of(alloc: Global, script: &[u8]) -> Result<Vec<u8>, AllocError>
 }
 
 /// The text of a summary.
-fn summary_text(alloc: Global, tally: ReplyCounts, worlds: u64, rows: u64) -> Result<Vec<u8>, AllocError>
+fn summary_text(
+    alloc: Global,
+    tally: ReplyCounts,
+    worlds: u64,
+    rows: u64,
+) -> Result<Vec<u8>, AllocError>
     ensures { IfOk result (λ text. text.items ≡ summary_text tally worlds rows) }
 {
     let mut text = Vec::new(alloc);

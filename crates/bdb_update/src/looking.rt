@@ -148,7 +148,12 @@ pub fn examine<K: Keeper>(
 }
 
 // What is said of a statement by what was read, and by the sizes of the base.
-fn judge(alloc: Global, stmt: &Stmt, finding: &Finding, counts: &Counts) -> Result<Prospect, AllocError>
+fn judge(
+    alloc: Global,
+    stmt: &Stmt,
+    finding: &Finding,
+    counts: &Counts,
+) -> Result<Prospect, AllocError>
     requires { IsSmall stmt.now finding.now counts.now }
     ensures { IfOk result (λ verdict. verdict ≡ judged stmt.now finding.now counts.now) }
 {
