@@ -1,5 +1,5 @@
 -- How a run over a stream of sessions ends, by its status.
-use Rattle.std.proofs.Common.{◌≡◌, ℕ, ◌⊎◌, Bool, List, Option, Some, None, Result, IfSome}
+use Rattle.std.proofs.Common.{◌≡◌, ℕ, ◌⊎◌, Bool, List, Option, Some, None, Result, IfSome, subst, sym}
 use Rattle.bdb_base.specs.Causes.{Rises}
 use Rattle.bdb_catalog.specs.Bases.{StoresValid}
 use Rattle.bdb_crowd.specs.Asked.{Point, start_at}
@@ -36,3 +36,10 @@ each_run (Some text) left hand session next first mid now old new result starts 
     let s = start_from b in
     (ran_from by_crowd crowd_in_order (λ p. p.state.base) agreed) (start_at s) text left next first mid now old new result opened still
     (run (start_at s) (starts mid.kept s (opens b stands).agrees))
+
+-- the same run, by what its status is
+pub each_status : (before left : Option (List ℕ)) (first now : Seen) (old new : Option (List ℕ)) (status number : ℕ) → status ≡ number
+    → IfSome before (λ text. EachBase first.kept (λ b. RanMany (start_from b) text left first now old new number))
+    → IfSome before (λ text. EachBase first.kept (λ b. RanMany (start_from b) text left first now old new status))
+each_status before left first now old new status number is ran =
+    subst (λ (n : ℕ). IfSome before (λ text. EachBase first.kept (λ b. RanMany (start_from b) text left first now old new n))) (sym is) ran

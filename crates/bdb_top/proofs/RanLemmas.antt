@@ -162,11 +162,6 @@ pub each_refused : (P : List ℕ → Contents → Type 0) (before : Option (List
 each_refused P None t none = tt
 each_refused P (Some text) t none = λ b stands. absurd (none b stands)
 
--- what holds with a status holds with the same number
-pub each_status : (P : ℕ → List ℕ → Contents → Type 0) (before : Option (List ℕ)) (t : Tables) (status number : ℕ) → status ≡ number
-    → IfSome before (λ text. EachBase t (P number text)) → IfSome before (λ text. EachBase t (P status text))
-each_status P before t status number is ran = subst (λ (n : ℕ). IfSome before (λ text. EachBase t (P n text))) (sym is) ran
-
 -- ---- scripts
 
 remembered : (t : Tables) (k : Known) (s : Timeline) → Remembers t k s → StoresValid t s.now
@@ -188,6 +183,13 @@ pub each_run : (before left : Option (List ℕ)) (session next : Known) (first m
 each_run None left session next first mid now old new result opens opened still run = tt
 each_run (Some text) left session next first mid now old new result opens opened still run = λ b stands.
     (ran_from by_session session_in_order (λ t. t.now) remembered) (started b) text left next first mid now old new result opened still (run (started b) (opens b stands))
+
+-- the same run, by what its status is
+pub each_status : (before left : Option (List ℕ)) (first now : Seen) (old new : Option (List ℕ)) (status number : ℕ) → status ≡ number
+    → IfSome before (λ text. EachBase first.kept (λ b. Ran (started b) text left first now old new number))
+    → IfSome before (λ text. EachBase first.kept (λ b. Ran (started b) text left first now old new status))
+each_status before left first now old new status number is ran =
+    subst (λ (n : ℕ). IfSome before (λ text. EachBase first.kept (λ b. Ran (started b) text left first now old new n))) (sym is) ran
 
 -- ---- how it ends, by the status
 

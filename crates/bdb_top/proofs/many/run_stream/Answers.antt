@@ -1,7 +1,7 @@
 use Rattle.std.proofs.Common.{Err, ap, inl, inr, refl}
 use Rattle.bdb_top.proofs.EmptyLemmas.{agreed_stand}
-use Rattle.bdb_top.proofs.ManyLemmas.{each_closed, each_run}
-use Rattle.bdb_top.proofs.RanLemmas.{but_for_large, each_refused, each_status, low_is_ok, many_if, not_seven, of_large, run_status}
+use Rattle.bdb_top.proofs.ManyLemmas.{each_closed, each_run, each_status}
+use Rattle.bdb_top.proofs.RanLemmas.{but_for_large, each_refused, low_is_ok, many_if, not_seven, of_large, run_status}
 use Rattle.bdb_top.proofs.many.run_stream.Goals as goal
 
 pub returns-in-Err-Damaged-clause-ran : goal.returns-in-Err-Damaged-clause-ran
@@ -24,7 +24,7 @@ returns-in-Err-Memory-clause-ran g c = each_closed _ _ _ _ _ c.open.ensures.stil
 
 pub returns-clause-ran : goal.returns-clause-ran
 returns-clause-ran g c =
-    each_status _ _ _ _ _ c.status_of.ensures
+    each_status _ _ _ _ _ _ _ _ c.status_of.ensures
     (each_run _ _ c.new-crowd.result c.in-Ok.session c.carry_out_stream.new.crowd.session _ (g.K.Keeper.seen c.open.new.keeper) _ _ _ c.carry_out_stream.result c.new-crowd.ensures.starts c.in-Ok.ensures.opened c.in-Ok.ensures.commits
     c.carry_out_stream.ensures.still c.carry_out_stream.ensures.streams)
 

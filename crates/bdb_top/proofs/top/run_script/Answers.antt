@@ -23,7 +23,7 @@ returns-in-Err-Memory-clause-ran g c = each_closed _ _ _ _ _ c.open.ensures.stil
 
 pub returns-clause-ran : goal.returns-clause-ran
 returns-clause-ran g c =
-    each_status _ _ _ _ _ c.status_of.ensures
+    each_status _ _ _ _ _ _ _ _ c.status_of.ensures
     (each_run _ _ c.in-Ok.session c.carry_out_script.new.session _ (g.K.Keeper.seen c.open.new.keeper) _ _ _ c.carry_out_script.result c.in-Ok.ensures.opened c.in-Ok.ensures.commits
     c.carry_out_script.ensures.still c.carry_out_script.ensures.streams)
 
