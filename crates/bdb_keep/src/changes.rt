@@ -46,6 +46,9 @@ pub fn insert_row(rows: &mut Rows, probe: &Probe<'_>, row: &[u8]) -> Result<Opti
     ensures keeps { OnOk result (KeepsPlaces rows.old rows.new) }
     ensures err { OnErr result (rows.new ≡ rows.old) }
 {
+    if rows.add_beside(probe, row) {
+        return Ok(None);
+    }
     match rows.insert(probe, row) {
         Ok(Some(before)) => Ok(before),
         Ok(None) => Ok(None),

@@ -1,5 +1,5 @@
 // The rows by place, on sorted shelves, where a removed row leaves an empty place.
-ghost use Rattle.std.specs.Prelude.{◌≡◌, [], Some, None, IfOk, IfErr, IfSome, IfNone, ◌↔◌, OnSome, OnOk, OnErr, IsTrue, MatchBool, false, if◌then◌else◌};
+ghost use Rattle.std.specs.Prelude.{◌≡◌, [], Some, None, IfOk, IfErr, IfSome, IfNone, ◌↔◌, OnSome, OnOk, OnErr, IsTrue, MatchBool, true, false, if◌then◌else◌};
 ghost use Rattle.std.specs.Option.{option_map};
 ghost use Rattle.std.specs.FinMap as map;
 ghost use Rattle.bdb_keep.specs.Entries.{place_at, row_of, rows_of, IsSetAt, IsAmong, AreAmong};
@@ -104,6 +104,27 @@ impl Rows {
         self.cursors.remember_written(probe, mark);
         self.census.inserted(&before);
         Ok(before)
+    }
+
+    /// Puts a row at a place that is new, and answers whether it is. Nothing changes where it isn't beside the one that was used last in its
+    /// table, or memory is wanting, and then the answer is false as well.
+    #[inline(always)]
+    pub fn add_beside(&mut self, probe: &Probe<'_>, row: &[u8]) -> bool
+        ensures absent { result ≡ true → place_at self.old probe.now ≡ None }
+        ensures set { result ≡ true → IsSetAt self.old self.new probe.now (Some (Some row.now)) }
+        ensures same { result ≡ false → self.new ≡ self.old }
+    {
+        let (last, _) = self.cursors.to_write(probe);
+        match runs::add_beside(self.alloc, &mut self.shelves, last, probe, row) {
+            Some(mark) => {
+                self.tally
+                    .note(probe, false, is_marked_in(TABLE, probe, row));
+                self.cursors.remember_written(probe, mark);
+                self.census.put(true, false);
+                true
+            }
+            None => false,
+        }
     }
 
     /// Puts a row at a place, and answers the row that stood there. None, and nothing changes, where the place doesn't come right behind

@@ -76,6 +76,56 @@ fn put_on(
     }
 }
 
+/// Puts a row at a new place, and answers where. None, and nothing changes, where the place is there already, or isn't beside the mark, or
+/// memory is wanting.
+#[inline(always)]
+pub fn add_beside(
+    alloc: Global,
+    shelves: &mut Vec<Shelf>,
+    mark: Mark,
+    probe: &Probe<'_>,
+    row: &[u8],
+) -> Option<Mark>
+    requires { AreSorted shelves.old.items }
+    ensures sorted { AreSorted shelves.new.items }
+    ensures absent { OnSome result (place_at (joined shelves.old.items) probe.now ≡ None) }
+    ensures set { OnSome result (IsSetAt (joined shelves.old.items) (joined shelves.new.items)
+        probe.now (Some (Some row.now))) }
+    ensures same { IfNone result (joined shelves.new.items ≡ joined shelves.old.items) }
+{
+    match add_on(alloc, shelves, mark, probe, row) {
+        Some(mark) => Some(cut_if_full(shelves, mark)),
+        None => None,
+    }
+}
+
+/// The same, where the shelf isn't cut.
+#[inline(always)]
+fn add_on(
+    alloc: Global,
+    shelves: &mut Vec<Shelf>,
+    mark: Mark,
+    probe: &Probe<'_>,
+    row: &[u8],
+) -> Option<Mark>
+    requires { AreSorted shelves.old.items }
+    ensures sorted { AreSorted shelves.new.items }
+    ensures absent { OnSome result (place_at (joined shelves.old.items) probe.now ≡ None) }
+    ensures set { OnSome result (IsSetAt (joined shelves.old.items) (joined shelves.new.items)
+        probe.now (Some (Some row.now))) }
+    ensures same { IfNone result (joined shelves.new.items ≡ joined shelves.old.items) }
+{
+    let (at, spot) = mark;
+    if at >= shelves.len() {
+        return None;
+    }
+    let is_last = is_last_shelf(shelves, at);
+    match shelves[at].add_beside(alloc, spot, is_last, probe, row) {
+        Some(spot) => Some((at, spot)),
+        None => None,
+    }
+}
+
 /// Empties a place, and answers where it stands, and the row that stood there. None, and nothing changes, where it isn't the first one
 /// behind the mark.
 #[inline(always)]
