@@ -6,9 +6,9 @@ use Rattle.bdb_keep.specs.declared.row.Bytes.TheVariants.{Short, Long}
 -- the bytes themselves
 abbrev pub row_bytes : Bytes → List ℕ
 row_bytes (Short count bytes) = take count bytes
-row_bytes (Long bytes) = bytes.value.items
+row_bytes (Long bytes) = bytes.value.bytes.items
 
 -- no more bytes lie in the value itself than it has room for
 abbrev pub HaveRoom : Bytes → Type 0
-HaveRoom (Short count bytes) = count ≤ 10
+HaveRoom (Short count bytes) = count ≤ 4
 HaveRoom (Long bytes) = Unit {0}

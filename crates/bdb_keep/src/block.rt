@@ -207,9 +207,5 @@ fn head_of_first(entries: &[Entry], other: Head) -> Head
 fn is_below(entry: &Entry, probe: &Probe<'_>) -> bool
     ensures { result ≡ is_lt (bytes_cmp entry.now.0 probe.now) }
 {
-    match probe.compare_head(&entry.head()) {
-        Ordering::Less => true,
-        Ordering::Equal => entry.compare(probe).is_lt(),
-        Ordering::Greater => false,
-    }
+    entry.is_below(probe)
 }

@@ -4,7 +4,7 @@ ghost use Rattle.std.specs.Option.{option_copied};
 ghost use Rattle.std.specs.Ordering.{is_le};
 ghost use Rattle.bdb_base.specs.Segments.{is_prefix};
 ghost use Rattle.bdb_keep.specs.Tables.{bytes_cmp};
-ghost use Rattle.bdb_keep.specs.Heads.{IsHeadOfPlace};
+ghost use Rattle.bdb_keep.specs.Heads.{IsHeadOfPlace, heads_cmp, numbers_cmp};
 ghost use Rattle.bdb_keep.specs.Tails.{head_in};
 
 use crate::head::Head;
@@ -22,8 +22,6 @@ use std::marker::Model;
 pub struct Entry {
     first: u64,
     second: u64,
-    third: u64,
-    fourth: u64,
     tail: Tail,
 }
 
@@ -35,14 +33,14 @@ impl Model for Entry {
     ghost Value = { List ℕ × Option (List ℕ) };
 
     ghost view = { λ e. (
-      table_in e.tail ∷ key_of (head_in e.first e.second e.third e.fourth e.tail)
+      table_in e.tail ∷ key_of (head_in e.first e.second e.tail)
           (rest_in e.tail),
       row_in e.tail,
     ) };
 
     ghost invariant = { λ e. IsHeadOf
-        (key_of (head_in e.first e.second e.third e.fourth e.tail) (rest_in e.tail))
-        (head_in e.first e.second e.third e.fourth e.tail) (rest_in e.tail) × HasRoom e.tail };
+        (key_of (head_in e.first e.second e.tail) (rest_in e.tail))
+        (head_in e.first e.second e.tail) (rest_in e.tail) × HasRoom e.tail };
 }
 
 impl Entry {
@@ -52,12 +50,18 @@ impl Entry {
         ensures { IfOk result (λ entry. entry ≡ (probe.now, Some row.now)) }
     {
         let (head, rest) = probe.parts();
-        let tail = Tail::of(alloc, head.tab, head.count, rest, row)?;
+        let tail = Tail::of(
+            alloc,
+            head.tab,
+            head.count,
+            head.third,
+            head.fourth,
+            rest,
+            row,
+        )?;
         Ok(Entry {
             first: head.first,
             second: head.second,
-            third: head.third,
-            fourth: head.fourth,
             tail,
         })
     }
@@ -66,7 +70,7 @@ impl Entry {
     pub fn probe(&self) -> Probe<'_>
         ensures { result ≡ self.now.0 }
     {
-        let head = head_with(self.first, self.second, self.third, self.fourth, &self.tail);
+        let head = head_with(self.first, self.second, &self.tail);
         Probe::from_parts(head, self.tail.rest())
     }
 
@@ -76,23 +80,33 @@ impl Entry {
         ensures { result ≡ bytes_cmp self.now.0 probe.now }
     {
         let (other, rest) = probe.parts();
-        let head = head_with(self.first, self.second, self.third, self.fourth, &self.tail);
-        match head.compare(&other) {
+        match self.compare_head(&other) {
             Ordering::Equal => self.tail.compare_rest(rest),
             order => order,
         }
     }
 
-    /// The same. Mostly the head tells.
+    /// Whether the place is below one that is looked for.
     #[inline(always)]
-    pub fn compare_by_head(&self, probe: &Probe<'_>) -> Ordering
-        ensures { result ≡ bytes_cmp self.now.0 probe.now }
-    {
-        match probe.compare_head(&self.head()) {
-            Ordering::Less => Ordering::Less,
-            Ordering::Equal => self.compare(probe),
-            Ordering::Greater => Ordering::Greater,
+    pub fn is_below(&self, probe: &Probe<'_>) -> bool {
+        let (other, _) = probe.parts();
+        match self.compare_head(&other) {
+            Ordering::Less => true,
+            Ordering::Equal => self.is_below_alike(probe),
+            Ordering::Greater => false,
         }
+    }
+
+    #[inline(never)]
+    fn is_below_alike(&self, probe: &Probe<'_>) -> bool {
+        let (_, rest) = probe.parts();
+        self.tail.compare_rest(rest).is_lt()
+    }
+
+    /// How the head of the place compares with another. Where the first numbers tell, the others aren't looked for.
+    #[inline(always)]
+    pub fn compare_head(&self, other: &Head) -> Ordering {
+        compare_heads(self.first, self.second, &self.tail, other)
     }
 
     /// The head of the place.
@@ -100,7 +114,7 @@ impl Entry {
     pub fn head(&self) -> Head
         ensures { IsHeadOfPlace result self.now.0 }
     {
-        head_with(self.first, self.second, self.third, self.fourth, &self.tail)
+        head_with(self.first, self.second, &self.tail)
     }
 
     /// Whether there is a row.
@@ -133,10 +147,10 @@ impl Entry {
         requires { IsTrue (is_le (bytes_cmp opening.now self.now.0)) }
         ensures { result ≡ is_prefix opening.now self.now.0 }
     {
-        match opening.behind(&self.head()) {
-            Some(prefix) => self.tail.rest_begins_with(prefix),
-            None => false,
+        if self.compare_head(opening.last()).is_le() {
+            return self.tail.rest_begins_with(opening.rest());
         }
+        false
     }
 
     /// Appends the key.
@@ -146,7 +160,7 @@ impl Entry {
         ensures ok { OnOk result (bytes.new.items ≡ bytes.old.items ++ drop 1 self.now.0) }
         ensures front { take (length bytes.old.items) bytes.new.items ≡ bytes.old.items }
     {
-        let head = head_with(self.first, self.second, self.third, self.fourth, &self.tail);
+        let head = head_with(self.first, self.second, &self.tail);
         head.append_to(bytes)?;
         if !self.tail.has_rest() {
             return Ok(());
@@ -160,7 +174,7 @@ impl Entry {
     pub fn write_key(&self, key: &mut Vec<u8>) -> Result<u8, AllocError>
         ensures { IfOk result (λ tab. self.now.0 ≡ tab ∷ key.new.items) }
     {
-        let head = head_with(self.first, self.second, self.third, self.fourth, &self.tail);
+        let head = head_with(self.first, self.second, &self.tail);
         head.write(key)?;
         let tab = self.tail.tab();
         if !self.tail.has_rest() {
@@ -173,15 +187,55 @@ impl Entry {
 
 /// The head of a place with these numbers.
 #[inline(always)]
-fn head_with(first: u64, second: u64, third: u64, fourth: u64, tail: &Tail) -> Head
-    ensures { result ≡ head_in first second third fourth tail.now }
+fn head_with(first: u64, second: u64, tail: &Tail) -> Head
+    ensures { result ≡ head_in first second tail.now }
 {
     Head {
         tab: tail.tab(),
         count: tail.count(),
         first,
         second,
-        third,
-        fourth,
+        third: tail.third(),
+        fourth: tail.fourth(),
     }
+}
+
+/// How the head of a place with these numbers compares with another.
+#[inline(always)]
+fn compare_heads(first: u64, second: u64, tail: &Tail, other: &Head) -> Ordering
+    ensures { result ≡ heads_cmp (head_in first second tail.now) other.now }
+{
+    let tab = tail.tab();
+    if tab != other.tab {
+        return tab.cmp(&other.tab);
+    }
+    compare_numbers(first, second, tail, other)
+}
+
+/// The same in one table.
+#[inline(always)]
+fn compare_numbers(first: u64, second: u64, tail: &Tail, other: &Head) -> Ordering
+    ensures { result ≡ numbers_cmp (head_in first second tail.now) other.now }
+{
+    if first != other.first {
+        return first.cmp(&other.first);
+    }
+    if second != other.second {
+        return second.cmp(&other.second);
+    }
+    let third = tail.third();
+    if third != other.third {
+        return third.cmp(&other.third);
+    }
+    compare_last(tail, other)
+}
+
+/// The same by the fourth number, and how many bytes these are.
+#[inline(never)]
+fn compare_last(tail: &Tail, other: &Head) -> Ordering {
+    let fourth = tail.fourth();
+    if fourth != other.fourth {
+        return fourth.cmp(&other.fourth);
+    }
+    tail.count().cmp(&other.count)
 }

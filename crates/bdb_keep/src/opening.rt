@@ -43,6 +43,16 @@ impl<'a> Opening<'a> {
         }
     }
 
+    #[inline(always)]
+    pub fn last(&self) -> &Head {
+        &self.last
+    }
+
+    #[inline(always)]
+    pub fn rest(&self) -> &[u8] {
+        from_index(self.prefix, 32)
+    }
+
     /// With what the bytes behind the head of a place have to begin for the place to begin so, where it isn't below. None where no
     /// place with this head begins so.
     #[inline(always)]

@@ -9,9 +9,16 @@ use std::marker::Model;
 #[derive(Drop)]
 pub enum Bytes {
     /// In the value itself: so many of these.
-    Short(u8, [u8; 10]),
+    Short(u8, [u8; 4]),
     /// In memory of their own.
-    Long(Box<Vec<u8>>),
+    Long(Box<Long>),
+}
+
+/// The bytes of a longer row, beside which there is room for a number of the key whose row it becomes.
+#[derive(Drop)]
+pub struct Long {
+    pub number: u64,
+    pub bytes: Vec<u8>,
 }
 
 /// The bytes of a row. Most rows have a few, so that a row takes little room.
@@ -64,7 +71,7 @@ impl Row {
     {
         match &self.bytes {
             Bytes::Short(count, short) => &short[..usize::from(*count)],
-            Bytes::Long(long) => long.as_slice(),
+            Bytes::Long(long) => long.bytes.as_slice(),
         }
     }
 }
@@ -79,8 +86,8 @@ impl Bytes {
         match short_of(bytes) {
             Some(short) => Ok(Bytes::Short(bytes.len() as u8, short)),
             None => {
-                let copy = Vec::from_slice(alloc, bytes)?;
-                let long = Box::new(alloc, copy)?;
+                let bytes = Vec::from_slice(alloc, bytes)?;
+                let long = Box::new(alloc, Long { number: 0, bytes })?;
                 Ok(Bytes::Long(long))
             }
         }
@@ -88,22 +95,16 @@ impl Bytes {
 }
 
 /// A few bytes, with zeros behind them. None where there is no room for so many.
-fn short_of(bytes: &[u8]) -> Option<[u8; 10]>
+fn short_of(bytes: &[u8]) -> Option<[u8; 4]>
     ensures same { IfSome result (λ short. take (length bytes.now) short ≡ bytes.now) }
-    ensures few { IfSome result (λ short. length bytes.now ≤ 10) }
+    ensures few { IfSome result (λ short. length bytes.now ≤ 4) }
 {
     match bytes {
-        [] => Some([0, 0, 0, 0, 0, 0, 0, 0, 0, 0]),
-        [a] => Some([*a, 0, 0, 0, 0, 0, 0, 0, 0, 0]),
-        [a, b] => Some([*a, *b, 0, 0, 0, 0, 0, 0, 0, 0]),
-        [a, b, c] => Some([*a, *b, *c, 0, 0, 0, 0, 0, 0, 0]),
-        [a, b, c, d] => Some([*a, *b, *c, *d, 0, 0, 0, 0, 0, 0]),
-        [a, b, c, d, e] => Some([*a, *b, *c, *d, *e, 0, 0, 0, 0, 0]),
-        [a, b, c, d, e, f] => Some([*a, *b, *c, *d, *e, *f, 0, 0, 0, 0]),
-        [a, b, c, d, e, f, g] => Some([*a, *b, *c, *d, *e, *f, *g, 0, 0, 0]),
-        [a, b, c, d, e, f, g, h] => Some([*a, *b, *c, *d, *e, *f, *g, *h, 0, 0]),
-        [a, b, c, d, e, f, g, h, i] => Some([*a, *b, *c, *d, *e, *f, *g, *h, *i, 0]),
-        [a, b, c, d, e, f, g, h, i, j] => Some([*a, *b, *c, *d, *e, *f, *g, *h, *i, *j]),
-        [_, _, _, _, _, _, _, _, _, _, _, ..] => None,
+        [] => Some([0, 0, 0, 0]),
+        [a] => Some([*a, 0, 0, 0]),
+        [a, b] => Some([*a, *b, 0, 0]),
+        [a, b, c] => Some([*a, *b, *c, 0]),
+        [a, b, c, d] => Some([*a, *b, *c, *d]),
+        [_, _, _, _, _, ..] => None,
     }
 }

@@ -4,10 +4,10 @@ ghost use Rattle.std.specs.Option.{option_copied};
 ghost use Rattle.bdb_base.specs.Segments.{is_prefix};
 ghost use Rattle.bdb_keep.specs.Tables.{bytes_cmp};
 ghost use Rattle.bdb_keep.specs.RowBytes.{row_bytes, HaveRoom};
-ghost use Rattle.bdb_keep.specs.Tails.{table_in, count_in, rest_in, row_in, HasRoom};
+ghost use Rattle.bdb_keep.specs.Tails.{table_in, count_in, rest_in, row_in, fourth_in, HasRoom};
 
 use crate::bytes::{begins_with, compare_words};
-use crate::row::{Bytes, Row};
+use crate::row::{Bytes, Long, Row};
 use std::alloc::{AllocError, Global};
 use std::cmp::Ordering;
 use std::mem::replace;
@@ -17,11 +17,11 @@ use std::mem::replace;
 #[derive(Drop)]
 pub enum Tail {
     /// No row.
-    Bare(u8, u8),
+    Bare(u8, u8, u64),
     /// A row: so many of these bytes.
-    Short(u8, u8, u8, [u8; 10]),
+    Short(u8, u8, u8, [u8; 4], u64),
     /// A longer row.
-    Long(u8, u8, Box<Vec<u8>>),
+    Long(u8, u8, Box<Long>),
     /// More bytes of the key.
     Far(u8, u8, Box<More>),
 }
@@ -29,6 +29,8 @@ pub enum Tail {
 /// The bytes of a key behind its numbers, and the row, if there is one.
 #[derive(Drop)]
 pub struct More {
+    pub third: u64,
+    pub fourth: u64,
     pub rest: Vec<u8>,
     pub row: Option<Row>,
 }
@@ -40,6 +42,8 @@ impl Tail {
         alloc: Global,
         tab: u8,
         count: u8,
+        third: u64,
+        fourth: u64,
         rest: &[u8],
         row: &[u8],
     ) -> Result<Self, AllocError>
@@ -49,23 +53,23 @@ impl Tail {
         ensures row { IfOk result (λ tail. row_in tail ≡ Some row.now) }
         ensures room { IfOk result (λ tail. HasRoom tail) }
     {
-        if !rest.is_empty() {
-            let more = more_of(alloc, rest, row)?;
+        if !rest.is_empty() || fourth != 0 {
+            let more = more_of(alloc, third, fourth, rest, row)?;
             return Ok(Tail::Far(tab, count, more));
         }
         match row {
             // Most rows have four bytes.
             [a, b, c, d] => {
-                let bytes = [*a, *b, *c, *d, 0, 0, 0, 0, 0, 0];
-                Ok(Tail::Short(tab, count, 4, bytes))
+                let bytes = [*a, *b, *c, *d];
+                Ok(Tail::Short(tab, count, 4, bytes, third))
             }
-            _ => Ok(Tail::with(tab, count, Bytes::of(alloc, row)?)),
+            _ => Ok(Tail::with(tab, count, third, Bytes::of(alloc, row)?)),
         }
     }
 
     /// The tail of a place with this row whose key is numbers alone.
     #[inline(always)]
-    fn with(tab: u8, count: u8, row: Bytes) -> Self
+    fn with(tab: u8, count: u8, third: u64, row: Bytes) -> Self
         requires { HaveRoom row }
         ensures tab { table_in result ≡ tab }
         ensures count { count_in result ≡ count }
@@ -74,13 +78,16 @@ impl Tail {
         ensures room { HasRoom result }
     {
         match row {
-            Bytes::Short(length, bytes) => Tail::Short(tab, count, length, bytes),
-            Bytes::Long(bytes) => Tail::Long(tab, count, bytes),
+            Bytes::Short(length, bytes) => Tail::Short(tab, count, length, bytes, third),
+            Bytes::Long(mut long) => {
+                long.number = third;
+                Tail::Long(tab, count, long)
+            }
         }
     }
 
     /// The same where there may be no row.
-    fn with_any(tab: u8, count: u8, row: Option<Row>) -> Self
+    fn with_any(tab: u8, count: u8, third: u64, row: Option<Row>) -> Self
         ensures tab { table_in result ≡ tab }
         ensures count { count_in result ≡ count }
         ensures rest { rest_in result ≡ [] }
@@ -88,8 +95,8 @@ impl Tail {
         ensures room { HasRoom result }
     {
         match row {
-            Some(row) => Tail::with(tab, count, row.into_bytes()),
-            None => Tail::Bare(tab, count),
+            Some(row) => Tail::with(tab, count, third, row.into_bytes()),
+            None => Tail::Bare(tab, count, third),
         }
     }
 
@@ -99,8 +106,8 @@ impl Tail {
         ensures { result ≡ table_in self.now }
     {
         match self {
-            Tail::Bare(tab, _) => *tab,
-            Tail::Short(tab, _, _, _) => *tab,
+            Tail::Bare(tab, _, _) => *tab,
+            Tail::Short(tab, _, _, _, _) => *tab,
             Tail::Long(tab, _, _) => *tab,
             Tail::Far(tab, _, _) => *tab,
         }
@@ -112,10 +119,33 @@ impl Tail {
         ensures { result ≡ count_in self.now }
     {
         match self {
-            Tail::Bare(_, count) => *count,
-            Tail::Short(_, count, _, _) => *count,
+            Tail::Bare(_, count, _) => *count,
+            Tail::Short(_, count, _, _, _) => *count,
             Tail::Long(_, count, _) => *count,
             Tail::Far(_, count, _) => *count,
+        }
+    }
+
+    /// The third of the numbers.
+    #[inline(always)]
+    pub fn third(&self) -> u64
+        ensures { result ≡ fourth_in self.now }
+    {
+        match self {
+            Tail::Bare(_, _, third) => *third,
+            Tail::Short(_, _, _, _, third) => *third,
+            Tail::Long(_, _, long) => long.number,
+            Tail::Far(_, _, more) => more.third,
+        }
+    }
+
+    #[inline(always)]
+    pub fn fourth(&self) -> u64 {
+        match self {
+            Tail::Bare(_, _, _) => 0,
+            Tail::Short(_, _, _, _, _) => 0,
+            Tail::Long(_, _, _) => 0,
+            Tail::Far(_, _, more) => more.fourth,
         }
     }
 
@@ -126,8 +156,8 @@ impl Tail {
     {
         match self {
             Tail::Far(_, _, more) => more.rest.as_slice(),
-            Tail::Bare(_, _) => &[],
-            Tail::Short(_, _, _, _) => &[],
+            Tail::Bare(_, _, _) => &[],
+            Tail::Short(_, _, _, _, _) => &[],
             Tail::Long(_, _, _) => &[],
         }
     }
@@ -139,8 +169,8 @@ impl Tail {
     {
         match self {
             Tail::Far(_, _, _) => true,
-            Tail::Bare(_, _) => false,
-            Tail::Short(_, _, _, _) => false,
+            Tail::Bare(_, _, _) => false,
+            Tail::Short(_, _, _, _, _) => false,
             Tail::Long(_, _, _) => false,
         }
     }
@@ -156,8 +186,8 @@ impl Tail {
                 key.extend_from_slice(more.rest.as_slice())?;
                 Ok(())
             }
-            Tail::Bare(_, _) => Ok(()),
-            Tail::Short(_, _, _, _) => Ok(()),
+            Tail::Bare(_, _, _) => Ok(()),
+            Tail::Short(_, _, _, _, _) => Ok(()),
             Tail::Long(_, _, _) => Ok(()),
         }
     }
@@ -191,8 +221,8 @@ impl Tail {
         ensures { result ≡ is_some (row_in self.now) }
     {
         match self {
-            Tail::Bare(_, _) => false,
-            Tail::Short(_, _, _, _) => true,
+            Tail::Bare(_, _, _) => false,
+            Tail::Short(_, _, _, _, _) => true,
             Tail::Long(_, _, _) => true,
             Tail::Far(_, _, more) => more.row.is_some(),
         }
@@ -205,9 +235,9 @@ impl Tail {
         ensures { option_copied result ≡ row_in self.now }
     {
         match self {
-            Tail::Bare(_, _) => None,
-            Tail::Short(_, _, length, bytes) => Some(&bytes[..usize::from(*length)]),
-            Tail::Long(_, _, bytes) => Some(bytes.as_slice()),
+            Tail::Bare(_, _, _) => None,
+            Tail::Short(_, _, length, bytes, _) => Some(&bytes[..usize::from(*length)]),
+            Tail::Long(_, _, long) => Some(long.bytes.as_slice()),
             Tail::Far(_, _, more) => match &more.row {
                 Some(row) => Some(row.as_slice()),
                 None => None,
@@ -226,18 +256,18 @@ pub fn swap_row(tail: &mut Tail, row: Option<Row>) -> Option<Row>
     ensures row { row_in tail.new ≡ row }
     ensures room { HasRoom tail.new }
 {
-    match replace(tail, Tail::Bare(0, 0)) {
-        Tail::Bare(tab, count) => {
-            *tail = Tail::with_any(tab, count, row);
+    match replace(tail, Tail::Bare(0, 0, 0)) {
+        Tail::Bare(tab, count, third) => {
+            *tail = Tail::with_any(tab, count, third, row);
             None
         }
-        Tail::Short(tab, count, length, bytes) => {
-            *tail = Tail::with_any(tab, count, row);
+        Tail::Short(tab, count, length, bytes, third) => {
+            *tail = Tail::with_any(tab, count, third, row);
             Some(Row::from_bytes(Bytes::Short(length, bytes)))
         }
-        Tail::Long(tab, count, bytes) => {
-            *tail = Tail::with_any(tab, count, row);
-            Some(Row::from_bytes(Bytes::Long(bytes)))
+        Tail::Long(tab, count, long) => {
+            *tail = Tail::with_any(tab, count, long.number, row);
+            Some(Row::from_bytes(Bytes::Long(long)))
         }
         Tail::Far(tab, count, mut more) => {
             let before = replace(&mut more.row, row);
@@ -249,7 +279,13 @@ pub fn swap_row(tail: &mut Tail, row: Option<Row>) -> Option<Row>
 
 /// Copies of the bytes of a key behind its numbers, and of a row.
 #[inline(never)]
-fn more_of(alloc: Global, rest: &[u8], row: &[u8]) -> Result<Box<More>, AllocError>
+fn more_of(
+    alloc: Global,
+    third: u64,
+    fourth: u64,
+    rest: &[u8],
+    row: &[u8],
+) -> Result<Box<More>, AllocError>
     ensures rest { IfOk result (λ more. more.value.rest.items ≡ rest.now) }
     ensures row { IfOk result (λ more. more.value.row ≡ Some row.now) }
 {
@@ -258,6 +294,8 @@ fn more_of(alloc: Global, rest: &[u8], row: &[u8]) -> Result<Box<More>, AllocErr
     let more = Box::new(
         alloc,
         More {
+            third,
+            fourth,
             rest,
             row: Some(row),
         },
