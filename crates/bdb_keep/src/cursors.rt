@@ -143,5 +143,5 @@ fn slots(alloc: Global) -> Vec<Slot> {
 /// The slot of a place, by its table and the first bytes of its key.
 #[inline(always)]
 fn slot_of(probe: &Probe<'_>) -> usize {
-    (probe.prefix().wrapping_mul(0x9e37_79b9_7f4a_7c15) >> 51) as usize
+    (probe.prefix() % 8192) as usize
 }

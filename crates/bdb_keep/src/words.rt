@@ -73,7 +73,7 @@ impl<'a> Probe<'a> {
     /// A number by which places of one table whose keys begin with the same four bytes are remembered together.
     #[inline(always)]
     pub fn prefix(&self) -> u64 {
-        (self.head.first >> 32 << 3) ^ u64::from(self.head.tab % 8)
+        (self.head.first >> 32) ^ (u64::from(self.head.tab % 8) << 10)
     }
 
     /// How a place with this head compares with the one that is looked for; at Equal the head doesn't tell.
