@@ -216,15 +216,17 @@ fn keep_single<K: Keeper>(
 fn told_of_new(changes: &[MarkChange]) -> SettledWorld
     ensures { TellsMarks (mark_under []) changes.now result }
 {
-    let mut settled = SettledWorld {
-        turned: false,
-        put: 0,
-        taken: 0,
-    };
+    let mut put = 0usize;
     for change in changes {
-        settled = with_change(settled, None, change.1);
+        if change.1.is_some() {
+            put += 1;
+        }
     }
-    settled
+    SettledWorld {
+        turned: put > 0,
+        put,
+        taken: 0,
+    }
 }
 
 // What changes do to a world's rows.
