@@ -26,7 +26,7 @@ use Rattle.bdb_tables.specs.Codec.{HasRow}
 use Rattle.bdb_tables.specs.InUse.{ValKey, tuple_codec, val_codec}
 use Rattle.bdb_tables.specs.Marks.{Mark}
 use Rattle.bdb_tables.specs.Spans.{AreUnder}
-use Rattle.bdb_tables.specs.Beginnings.{led_by}
+use Rattle.bdb_tables.specs.Prefixes.{led_by}
 use Rattle.bdb_worlds.specs.Bounds.{RisesWithin}
 use Rattle.bdb_catalog.specs.Bases.{HasUsers}
 
@@ -74,8 +74,8 @@ abbrev pub is_asked : (ℕ → ℕ) → ℕ → List Value → Tuple → Bool
 is_asked keys rel vs u = nat_eq u.rel rel && starts_with (keys rel) vs (key_of keys u)
 
 -- how the keys of a world's rows of a relation begin whose tuples have a key of some length that begins with these values
-abbrev pub beginning : ℕ → ℕ → ℕ → List Value → List ℕ
-beginning n wid rel vs = num_bytes wid ++ num_bytes rel ++ num_bytes n ++ values_bytes vs
+abbrev pub key_prefix : ℕ → ℕ → ℕ → List Value → List ℕ
+key_prefix n wid rel vs = num_bytes wid ++ num_bytes rel ++ num_bytes n ++ values_bytes vs
 
 -- ---- rows and their tuples
 

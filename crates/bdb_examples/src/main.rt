@@ -53,7 +53,7 @@ enum Outcome {
     Differs(usize),
     /// It wrote the replies, and ended with another status, this one.
     Ended(u8),
-    /// It wasn't run: a file of it can't be read, or memory is wanting.
+    /// It wasn't run: a file of it can't be read, or memory runs out.
     NotRun,
 }
 

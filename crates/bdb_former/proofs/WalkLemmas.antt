@@ -2,54 +2,42 @@
 use Rattle.std.proofs.Common.{◌≡◌, ◌∙◌, ℕ, ◌+◌, ◌<◌, ◌≤◌, Bool, true, false, cond, List, [], ◌∷◌, Option, Some, None, refl, ap, sym, inl, inr, arith}
 use Rattle.std.specs.FinMap as tables
 use Rattle.std.specs.FinMap.{get-retain_keys}
-use Rattle.std.specs.Ordering.{eq_by_cmp, is_eq, is_le, is_lt, nat_cmp, ordering_reverse, ordering_then}
-use Rattle.std.specs.declared.cmp.Ordering.{Ordering}
-use Rattle.std.specs.declared.cmp.Ordering.TheVariants.{Less, Equal, Greater}
+use Rattle.std.specs.Ordering.{eq_by_cmp, is_eq, is_lt, nat_cmp, ordering_then}
+use Rattle.std.specs.declared.cmp.Ordering.TheVariants.{Equal}
 use Rattle.std.specs.Cmp.{both_ways}
-use Rattle.std.proofs.lemmas.Bool.{cases_Bool, false≢true}
+use Rattle.std.proofs.lemmas.Bool.{cases_Bool}
 use Rattle.std.proofs.lemmas.Cmp.{by_ranked, nat_list_cmp_total, ranked}
 use Rattle.std.proofs.lemmas.Map.Lookups.{exact_bytes}
+use Rattle.bdb_base.proofs.SetLemmas.{is_lt-Less}
+use Rattle.bdb_base.proofs.Numbers.{less, greater}
 use Rattle.bdb_keep.specs.Scans.{next_key}
 use Rattle.bdb_keep.specs.Tables.{IsLeastFrom, LieInTables, NoneFrom, Tables, bytes_cmp}
 use Rattle.bdb_keep.proofs.EntriesLemmas.{le_from_not_lt, less_le}
 use Rattle.bdb_keep.proofs.Gets.{get_after_insert, get_empty, tables_from_gets}
 use Rattle.bdb_keep.proofs.RowsLemmas.{same_place}
 use Rattle.bdb_keep.proofs.Scans.{between_keys}
+use Rattle.bdb_keep.proofs.UnderLemmas.{less_not_le}
 use Rattle.bdb_former.specs.Respelled.{below}
 
 -- ---- the order of places
 
-less_is : (m n : ℕ) → m < n → nat_cmp m n ≡ Less
-less_is m n h = by_ranked (m < n) (m ≡ n) (n < m) (nat_cmp m n) (ranked m n (nat_cmp m n) refl) (λ o _. o) (λ o e. absurd (omega arith)) (λ o g. absurd (omega arith))
-
 equal_is : (m n : ℕ) → m ≡ n → nat_cmp m n ≡ Equal
 equal_is m n h = by_ranked (m < n) (m ≡ n) (n < m) (nat_cmp m n) (ranked m n (nat_cmp m n) refl) (λ o l. absurd (omega arith)) (λ o _. o) (λ o g. absurd (omega arith))
 
-more_is : (m n : ℕ) → n < m → nat_cmp m n ≡ Greater
-more_is m n h = by_ranked (m < n) (m ≡ n) (n < m) (nat_cmp m n) (ranked m n (nat_cmp m n) refl) (λ o l. absurd (omega arith)) (λ o e. absurd (omega arith)) (λ o _. o)
-
 -- a place of a lower table is below, whatever the keys are
 lower_table : (m n : ℕ) (k l : List ℕ) → m < n → is_lt (bytes_cmp (m ∷ k) (n ∷ l)) ≡ true
-lower_table m n k l h = ap (λ r. is_lt (ordering_then r (bytes_cmp k l))) (less_is m n h)
+lower_table m n k l h = ap (λ r. is_lt (ordering_then r (bytes_cmp k l))) (less m n h)
 
 same_table : (m n : ℕ) (k l : List ℕ) → m ≡ n → is_lt (bytes_cmp (m ∷ k) (n ∷ l)) ≡ is_lt (bytes_cmp k l)
 same_table m n k l h = ap (λ r. is_lt (ordering_then r (bytes_cmp k l))) (equal_is m n h)
 
 higher_table : (m n : ℕ) (k l : List ℕ) → n < m → is_lt (bytes_cmp (m ∷ k) (n ∷ l)) ≡ false
-higher_table m n k l h = ap (λ r. is_lt (ordering_then r (bytes_cmp k l))) (more_is m n h)
+higher_table m n k l h = ap (λ r. is_lt (ordering_then r (bytes_cmp k l))) (greater m n h)
 
 -- no key is below the empty one
 none_below_empty : (k : List ℕ) → is_lt (bytes_cmp k []) ≡ false
 none_below_empty [] = refl
 none_below_empty (b ∷ k) = refl
-
-is_less : (o : Ordering) → is_lt o ≡ true → o ≡ Less
-is_less Less e = refl
-is_less Equal e = absurd (false≢true e)
-is_less Greater e = absurd (false≢true e)
-
-not_from : (a b : List ℕ) → bytes_cmp a b ≡ Less → is_le (bytes_cmp b a) ≡ false
-not_from a b e = ap is_le (nat_list_cmp_total.antisymm b a ∙ ap ordering_reverse e)
 
 -- ---- the rows below a place
 
@@ -136,7 +124,7 @@ module _ (t : Tables) (tab : ℕ) (low key row : List ℕ) (least : IsLeastFrom 
           -- a row between the last key and the next one is this one
           none : is_lt (bytes_cmp k (next_key key)) ≡ true → is_lt (bytes_cmp k low) ≡ false → tables.get t (tab ∷ k) ≡ None
           none f g =
-              between_keys t tab low key row k least (le_from_not_lt k low g) (not_from k (next_key key) (is_less (bytes_cmp k (next_key key)) f))
+              between_keys t tab low key row k least (le_from_not_lt k low g) (less_not_le k (next_key key) (is_lt-Less (bytes_cmp k (next_key key)) f))
               ∙ ap (λ b. cond b (Some row) None) differs
 
           forward : is_lt (bytes_cmp k (next_key key)) ≡ true → is_lt (bytes_cmp k low) ≡ true
@@ -146,7 +134,7 @@ module _ (t : Tables) (tab : ℕ) (low key row : List ℕ) (least : IsLeastFrom 
           ]
 
           back : is_lt (bytes_cmp k low) ≡ true → is_lt (bytes_cmp k (next_key key)) ≡ true
-          back f = ap is_lt (nat_list_cmp_total.trans k key (next_key key) (less_le k low key (is_less (bytes_cmp k low) f) least.not_below) (is_less (bytes_cmp key (next_key key)) (itself key)))
+          back f = ap is_lt (nat_list_cmp_total.trans k key (next_key key) (less_le k low key (is_lt-Less (bytes_cmp k low) f) least.not_below) (is_lt-Less (bytes_cmp key (next_key key)) (itself key)))
 
   pub row_more : below (tab ∷ next_key key) t ≡ tables.insert (below (tab ∷ low) t) (tab ∷ key) row
   row_more = tables_from_gets (below (tab ∷ next_key key) t) (tables.insert (below (tab ∷ low) t) (tab ∷ key) row) (λ q.

@@ -91,12 +91,12 @@ fn copy_row(
     let spelled_key = respelled_key(alloc, tab, key)?;
     let spelled_row = respelled_row(alloc, tab, row)?;
     copy.preset(tab, &spelled_key, &spelled_row)?;
-    go_behind(low, key)?;
+    set_behind(low, key)?;
     Ok(())
 }
 
 // The least key behind a key.
-fn go_behind(low: &mut Vec<u8>, key: &[u8]) -> Result<(), AllocError>
+fn set_behind(low: &mut Vec<u8>, key: &[u8]) -> Result<(), AllocError>
     ensures { OnOk result (low.new.items ≡ next_key key.now) }
 {
     low.clear();

@@ -10,8 +10,9 @@ use Rattle.bdb_keep.specs.Entries.{Entries, place_at, AreBelow, AreAbove, NoneBe
 use Rattle.bdb_keep.specs.Blocks.{joined, before, after, HasEntry, HaveEntries, AreSorted, IsBound, IsThere, entry_at, StandsAt, IsGap, starts_within, without_empty, has_any, cut}
 use lib.Seq.{set_split, drop-append-le}
 use Rattle.std.proofs.lemmas.List.Edits.{length-remove}
+use Rattle.bdb_base.proofs.SetLemmas.{is_lt-Less}
 use Rattle.bdb_keep.proofs.RowsLemmas.{same_place}
-use Rattle.bdb_keep.proofs.EntriesLemmas.{AreApart, less_from_is_lt, le_from_not_lt, above_from_first, place_at-here, place_at-below, place_at-above, ascending-replace, ascending-insert, ascending-remove, less_le, less_from_not_le, AreBelow-append, NoneBelow-append, AreAbove-parts, ascending-parts, none_below_from_first, below_from_last}
+use Rattle.bdb_keep.proofs.EntriesLemmas.{AreApart, le_from_not_lt, above_from_first, place_at-here, place_at-below, place_at-above, ascending-replace, ascending-insert, ascending-remove, less_le, less_from_not_le, AreBelow-append, NoneBelow-append, AreAbove-parts, ascending-parts, none_below_from_first, below_from_last}
 
 -- what stands before a place and from it on are all entries
 pub split : (bs : List Entries) (i j : ℕ) → joined bs ≡ before bs i j ++ after bs i j
@@ -179,7 +180,7 @@ sorted-added bs cs q r i j s g e f = record {
 pub lower-below : (q : List ℕ) (es : Entries) (n : ℕ) → AllWithin (λ e. is_lt (bytes_cmp e.0 q) ≡ true) es 0 n → n ≤ length es → AreBelow q (take n es)
 lower-below q es zero w h = tt
 lower-below q [] (suc n) w h = tt
-lower-below q (e ∷ es) (suc n) w h = (less_from_is_lt (bytes_cmp e.0 q) (w 0 e (omega arith) (omega arith)), lower-below q es n (λ k d l m. w (suc k) d (omega arith) (omega arith)) (omega arith))
+lower-below q (e ∷ es) (suc n) w h = (is_lt-Less (bytes_cmp e.0 q) (w 0 e (omega arith) (omega arith)), lower-below q es n (λ k d l m. w (suc k) d (omega arith) (omega arith)) (omega arith))
 
 -- where none from an index on passes it, none is below
 pub lower-above : (q : List ℕ) (es : Entries) (n : ℕ) → AllWithin (λ e. is_lt (bytes_cmp e.0 q) ≡ false) es n (length es) → NoneBelow q (drop n es)
@@ -196,7 +197,7 @@ above-at p (e ∷ es) (suc k) d a h = above-at p es k d a.1 (omega arith)
 pub lower-parted : (q : List ℕ) (es : Entries) → IsAscending es → IsPartitionedBy (λ e. is_lt (bytes_cmp e.0 q)) es
 lower-parted q [] a i k d l h s = absurd (omega arith)
 lower-parted q (e ∷ es) a zero zero d l h s = s
-lower-parted q (e ∷ es) a zero (suc k) d l h s = ap is_lt (nat_list_cmp_total.trans e.0 (get_or es k d).0 q (above-at e.0 es k d a.0 (omega arith)) (less_from_is_lt (bytes_cmp (get_or es k d).0 q) s))
+lower-parted q (e ∷ es) a zero (suc k) d l h s = ap is_lt (nat_list_cmp_total.trans e.0 (get_or es k d).0 q (above-at e.0 es k d a.0 (omega arith)) (is_lt-Less (bytes_cmp (get_or es k d).0 q) s))
 lower-parted q (e ∷ es) a (suc i) zero d l h s = absurd (omega arith)
 lower-parted q (e ∷ es) a (suc i) (suc k) d l h s = lower-parted q es a.1 i k d (omega arith) (omega arith) s
 
@@ -218,7 +219,7 @@ last-before bs i zero d h l k = absurd (omega arith)
 last-before bs i (suc j) d h l k = let e : suc j - 1 ≡ j = omega arith in before-more bs i j d h (omega arith) ∙ ap (λ n. before bs i n ++ get_or (get_or bs i []) n d ∷ []) (sym e)
 
 pub above-last : (bs : List Entries) (q : List ℕ) (i j : ℕ) (xs : Entries) (e : List ℕ × Option (List ℕ)) → AreSorted bs → before bs i j ≡ xs ++ e ∷ [] → is_lt (bytes_cmp e.0 q) ≡ true → AreBelow q (before bs i j)
-above-last bs q i j xs e s h t = subst (AreBelow q) (sym h) (below_from_last q xs e (subst IsAscending h (sorted-before bs i j s)) (less_from_is_lt (bytes_cmp e.0 q) t))
+above-last bs q i j xs e s h t = subst (AreBelow q) (sym h) (below_from_last q xs e (subst IsAscending h (sorted-before bs i j s)) (is_lt-Less (bytes_cmp e.0 q) t))
 
 pub within-first : (bs : List Entries) (q : List ℕ) (i j k l : ℕ) → AreSorted bs → IsThere bs k l → after bs k l ≡ after bs i j → is_lt (bytes_cmp (entry_at (get_or bs k []) l).0 q) ≡ false → NoneBelow q (after bs i j)
 within-first bs q i j k l s t e n =

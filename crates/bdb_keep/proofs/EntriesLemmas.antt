@@ -47,11 +47,6 @@ less_from_not_le a q h = nat_list_cmp_total.antisymm q a ∙ there (bytes_cmp a 
     there Equal h = absurd (true≢false h)
     there Greater h = refl
 
-pub less_from_is_lt : (r : Ordering) → is_lt r ≡ true → r ≡ Less
-less_from_is_lt Less h = refl
-less_from_is_lt Equal h = absurd (true≢false (sym h))
-less_from_is_lt Greater h = absurd (true≢false (sym h))
-
 -- a place that is at another or above it, and not at it, is above it
 pub less_from_apart : (q a : List ℕ) → IsTrue (is_le (bytes_cmp q a)) → is_eq (bytes_cmp q a) ≡ false → bytes_cmp q a ≡ Less
 less_from_apart q a h n = there (bytes_cmp q a) h n

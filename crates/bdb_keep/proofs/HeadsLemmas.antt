@@ -11,7 +11,7 @@ use mathlib.Core.Bool.{true≢false}
 use Rattle.bdb_keep.specs.Tables.{bytes_cmp}
 use Rattle.bdb_keep.specs.Heads.{padded, bytes_of, key_of, IsHeadOf, IsHeadOfPlace, heads_cmp}
 use Rattle.bdb_keep.specs.declared.head.Head.{Head}
-use Rattle.bdb_base.proofs.Numbers.{less, greater, equal, then_assoc, numbers}
+use Rattle.bdb_base.proofs.Numbers.{less, greater, equal, then_assoc, numbers, then_equal}
 
 stepped : (m n : ℕ) → nat_cmp (suc m) (suc n) ≡ nat_cmp m n
 stepped m n = grind (arith, nat_tests)
@@ -25,11 +25,6 @@ then_greater : (r : Ordering) → is_le r ≡ true → ordering_then (ordering_r
 then_greater Less h = refl
 then_greater Equal h = refl
 then_greater Greater h = absurd (true≢false (sym h))
-
-then_equal : (r : Ordering) → ordering_then r Equal ≡ r
-then_equal Less = refl
-then_equal Equal = refl
-then_equal Greater = refl
 
 -- zeros are not above anything
 zeros_le : (n : ℕ) (key : List ℕ) → is_le (bytes_cmp (padded n []) (padded n key)) ≡ true

@@ -7,24 +7,18 @@ use Rattle.std.specs.Int.{byte_at, bytes_high_first, to_be_bytes, w64}
 use Rattle.std.specs.FinMap.{nat_cmp-IsAntisymmetric}
 use Rattle.std.proofs.lemmas.Nat.{mod_below}
 use Rattle.std.proofs.lemmas.Cmp.{nat_cmp_total, tied_itself}
-use Rattle.std.proofs.lemmas.Bool.{cases_lt, eqb-true}
+use Rattle.std.proofs.lemmas.Bool.{cases_lt, eqb-true, false_from_ne_true}
 use mathlib.Core.Bool.{true≢false}
 use Rattle.bdb_base.specs.Segments.{is_prefix}
 use Rattle.bdb_keep.specs.Tables.{bytes_cmp}
 use Rattle.bdb_keep.specs.Heads.{padded, bytes_of, key_of, IsHeadOf, IsHeadOfPlace, numbers_cmp, heads_cmp}
 use Rattle.bdb_keep.specs.Openings.{filled, IsLastHead}
 use Rattle.bdb_keep.specs.declared.head.Head.{Head}
-use Rattle.bdb_base.proofs.Numbers.{less, equal}
+use Rattle.bdb_base.proofs.Numbers.{less, equal, number_le}
 use Rattle.bdb_keep.proofs.HeadsLemmas.{four, plus}
-use Rattle.bdb_keep.proofs.UnderLemmas.{not_true, nat_same}
+use Rattle.bdb_keep.proofs.UnderLemmas.{nat_same}
 
 -- ---- a key that isn't below some bytes begins so where its front isn't above theirs, filled up
-
-le_number : (a b : ℕ) → a ≤ b → is_le (nat_cmp a b) ≡ true
-le_number a b h = elim (cases_lt a b) [
-  | inl lt ↦ ap is_le (less a b lt)
-  | inr ge ↦ let e : a ≡ b = omega arith in ap is_le (ap (λ n. nat_cmp n b) e ∙ equal b)
-]
 
 -- a byte is at most 255
 most : (b : ℕ) (o : Ordering) → b < 256 → is_le o ≡ true → is_le (ordering_then (nat_cmp b 255) o) ≡ true
@@ -39,7 +33,7 @@ full (suc n) [] a = most 0 (bytes_cmp (padded n []) (filled n [])) a.0 (full n [
 full (suc n) (b ∷ x) a = most b (bytes_cmp (padded n x) (filled n [])) a.0 (full n x a.1)
 
 less_apart : (a b : ℕ) → nat_cmp a b ≡ Less → nat_eq a b ≡ false
-less_apart a b e = not_true (nat_eq a b) (λ t. true≢false (sym (ap is_lt e) ∙ ap is_lt (ap (λ n. nat_cmp n b) (eqb-true a b t) ∙ tied_itself nat_cmp_total b)))
+less_apart a b e = false_from_ne_true (nat_eq a b) (λ t. true≢false (sym (ap is_lt e) ∙ ap is_lt (ap (λ n. nat_cmp n b) (eqb-true a b t) ∙ tied_itself nat_cmp_total b)))
 
 -- one byte, or a table, in front
 step : (a b : ℕ) (o s : Ordering) (u v : Bool) → is_le (ordering_then (nat_cmp a b) o) ≡ true → (is_le o ≡ true → u ≡ (is_le s && v)) → (nat_eq a b && u) ≡ (is_le (ordering_then (nat_cmp b a) s) && v)
@@ -99,7 +93,7 @@ taken (suc n) (b ∷ x) = let more = taken n x in omega (arith, more)
 by_last : (p x : List ℕ) (h l : Head) → IsHeadOf x h (drop 32 x) → IsLastHead l p → is_le (bytes_cmp p x) ≡ true → is_prefix p x ≡ (is_le (numbers_cmp h l) && is_prefix (drop 32 p) (drop 32 x))
 by_last p x h l i k le =
     let few = taken 32 x in
-    let count : is_le (nat_cmp h.count l.count) ≡ true = le_number h.count l.count (omega (arith, few, i.count, k.count)) in
+    let count : is_le (nat_cmp h.count l.count) ≡ true = number_le h.count l.count (omega (arith, few, i.count, k.count)) in
     fronts 32 p x (subst (AllByRecursion (λ b. b < 256)) (sym i.bytes) (bytes_small h)) le
     ∙ ap (λ c. c && is_prefix (drop 32 p) (drop 32 x))
     (ap (λ m. is_le (bytes_cmp m (filled 32 p))) i.bytes ∙ ap (λ m. is_le (bytes_cmp (bytes_of h) m)) k.bytes

@@ -6,26 +6,24 @@ use Rattle.std.specs.declared.cmp.Ordering.TheVariants.{Less, Equal, Greater}
 use Rattle.std.specs.Ordering.{is_le, is_eq, is_lt, nat_cmp, eq_by_cmp, ordering_then, ordering_reverse}
 use Rattle.std.specs.List.{AllByRecursion, list_all}
 use Rattle.std.specs.FinMap.{find, nat_cmp-IsAntisymmetric}
-use Rattle.std.proofs.lemmas.Bool.{and_parts, and_from, eqb-true}
-use Rattle.std.proofs.lemmas.Cmp.{nat_list_cmp_total, nat_cmp_total, tied_itself, eq_by_cmp_equiv}
+use Rattle.std.proofs.lemmas.Bool.{and_parts, and_from, eqb-true, false_from_ne_true}
+use Rattle.std.proofs.lemmas.Cmp.{nat_list_cmp_total, nat_cmp_total, eq_by_cmp_equiv}
 use Rattle.std.proofs.lemmas.List.{take-append-drop}
 use Rattle.std.proofs.Math.Seq.{take-suc, drop-cons}
 use mathlib.Core.Bool.{true≢false}
 use Rattle.bdb_base.specs.Segments.{is_prefix}
 use Rattle.bdb_base.specs.SortedSet.{ascending}
+use Rattle.bdb_base.proofs.Numbers.{equal}
 use Rattle.bdb_keep.specs.Tables.{bytes_cmp}
 use Rattle.bdb_keep.specs.Entries.{Entries, row_of, place_at, rows_of, AreBelow, AreAbove, NoneBelow, IsAscending}
 use Rattle.bdb_keep.specs.Blocks.{joined, before, after, AreSorted, IsBound, IsBlockFor}
 use Rattle.bdb_keep.specs.Spans.{Listed, listed_cmp, AreRowsUnder, row_under, entries_under, HasPast}
-use Rattle.bdb_keep.proofs.BlocksLemmas.{split, after-start}
+use Rattle.bdb_keep.proofs.BlocksLemmas.{split, after-start, after-end}
 use Rattle.bdb_keep.proofs.EntriesLemmas.{ascending-parts, place_at-above}
 use Rattle.bdb_keep.proofs.RowsLemmas.{get_rows_of, same_place}
 use Rattle.bdb_keep.proofs.ShelvesLemmas.{parts, shelf-below}
 
 -- ---- bytes that begin so
-
-same_number : (n : ℕ) → nat_cmp n n ≡ Equal
-same_number n = tied_itself nat_cmp_total n
 
 pub nat_same : (n m : ℕ) → n ≡ m → nat_eq n m ≡ true
 nat_same n m e = grind arith
@@ -38,7 +36,7 @@ prefix_le (i ∷ p) [] h = absurd (true≢false (sym h))
 prefix_le (i ∷ p) (j ∷ q) h =
     let both = and_parts (nat_eq i j) (is_prefix p q) h in
     let same : i ≡ j = eqb-true i j both.0 in
-    ap (λ o. is_le (ordering_then o (bytes_cmp p q))) (ap (λ n. nat_cmp n j) same ∙ same_number j) ∙ prefix_le p q both.1
+    ap (λ o. is_le (ordering_then o (bytes_cmp p q))) (ap (λ n. nat_cmp n j) same ∙ equal j) ∙ prefix_le p q both.1
 
 -- what lies between a beginning and bytes that begin so begins so too
 pub prefix_convex : (p k q : List ℕ) → is_prefix p q ≡ true → is_le (bytes_cmp p k) ≡ true → is_le (bytes_cmp k q) ≡ true → is_prefix p k ≡ true
@@ -70,25 +68,21 @@ pub row_under-other : (p place : List ℕ) (r : Option (List ℕ)) → is_prefix
 row_under-other p place None h = refl
 row_under-other p place (Some row) h = ap (λ b. cond b ((drop 1 place, row) ∷ []) []) h
 
-less_not_le : (a b : List ℕ) → bytes_cmp a b ≡ Less → is_le (bytes_cmp b a) ≡ false
+pub less_not_le : (a b : List ℕ) → bytes_cmp a b ≡ Less → is_le (bytes_cmp b a) ≡ false
 less_not_le a b l = ap is_le (nat_list_cmp_total.antisymm b a ∙ ap ordering_reverse l)
-
-pub not_true : (b : Bool) → (b ≡ true → ⊥) → b ≡ false
-not_true true h = absurd (h refl)
-not_true false h = refl
 
 -- what is below doesn't begin so
 pub below-under : (p : List ℕ) (xs : Entries) → AreBelow p xs → entries_under p xs ≡ []
 below-under p [] b = refl
 below-under p (x ∷ xs) b =
-    ap (λ r. r ++ entries_under p xs) (row_under-other p x.0 x.1 (not_true (is_prefix p x.0) (λ h. true≢false (sym (prefix_le p x.0 h) ∙ less_not_le x.0 p b.0))))
+    ap (λ r. r ++ entries_under p xs) (row_under-other p x.0 x.1 (false_from_ne_true (is_prefix p x.0) (λ h. true≢false (sym (prefix_le p x.0 h) ∙ less_not_le x.0 p b.0))))
     ∙ below-under p xs b.1
 
 -- nor does what is above a place that is past
 above-under : (p k : List ℕ) (ys : Entries) → IsTrue (is_le (bytes_cmp p k)) → is_prefix p k ≡ false → AreAbove k ys → entries_under p ys ≡ []
 above-under p k [] l n a = refl
 above-under p k (y ∷ ys) l n a =
-    ap (λ r. r ++ entries_under p ys) (row_under-other p y.0 y.1 (not_true (is_prefix p y.0) (λ h. true≢false (sym (prefix_convex p k y.0 h l (ap is_le a.0)) ∙ n))))
+    ap (λ r. r ++ entries_under p ys) (row_under-other p y.0 y.1 (false_from_ne_true (is_prefix p y.0) (λ h. true≢false (sym (prefix_convex p k y.0 h l (ap is_le a.0)) ∙ n))))
     ∙ above-under p k ys l n a.1
 
 above-append : (k : List ℕ) (xs ys : Entries) → AreAbove k (xs ++ ys) → AreAbove k ys
@@ -120,7 +114,7 @@ module _ (tab : ℕ) (prefix : List ℕ) where
   place_begins q h = and_from (nat_eq tab tab) (is_prefix prefix q) (nat_same tab tab refl) h
 
   inside : (a b : List ℕ) → bytes_cmp (tab ∷ a) (tab ∷ b) ≡ bytes_cmp a b
-  inside a b = ap (λ r. ordering_then r (bytes_cmp a b)) (same_number tab)
+  inside a b = ap (λ r. ordering_then r (bytes_cmp a b)) (equal tab)
 
   -- their keys begin so
   each_here : (place : List ℕ) (r : Option (List ℕ)) (rest : Listed) → AllByRecursion (λ r. is_prefix prefix r.0 ≡ true) rest → AllByRecursion (λ r. is_prefix prefix r.0 ≡ true) (row_under (tab ∷ prefix) place r ++ rest)
@@ -224,11 +218,6 @@ pub after-rest : (bs : List Entries) (i j : ℕ) → i < length bs → after bs 
 after-rest [] i j h = absurd (omega arith)
 after-rest (b ∷ bs) zero j h = ap (λ x. drop j b ++ x) (sym (after-start bs))
 after-rest (b ∷ bs) (suc i) j h = after-rest bs i j (omega arith)
-
-pub after-end : (bs : List Entries) (i j : ℕ) → length bs ≤ i → after bs i j ≡ []
-after-end [] i j h = refl
-after-end (b ∷ bs) zero j h = absurd (omega arith)
-after-end (b ∷ bs) (suc i) j h = after-end bs i j (omega arith)
 
 -- ---- entry by entry
 

@@ -8,7 +8,7 @@ use Rattle.bdb_keep.specs.Tables.{IsPlace, Tables, bytes_cmp, set_at}
 use Rattle.bdb_keep.specs.Held.{written}
 use Rattle.bdb_keep.specs.Entries.{Entries}
 use Rattle.bdb_keep.specs.Changes.{places_of, undone, HavePlaces}
-use Rattle.bdb_keep.specs.declared.changes.Change.{Change}
+use Rattle.bdb_keep.specs.declared.changes.PlaceChange.{PlaceChange}
 use Rattle.bdb_keep.proofs.RowsLemmas.{get-set_at, same_place, same_tables}
 
 abbrev Among : List (List ℕ) → List ℕ → Type 0
@@ -39,7 +39,7 @@ written-agrees (p ∷ ps) now t h = written-agrees ps now (set_at t p (map.get n
     more q (inr e) = inr (written_at now t p q (inr e))
 
 -- changes that are undone differ at their places alone
-undone-agrees : (cs : List Change) (t : Tables) (q : List ℕ) → Among (places_of cs) q ⊎ (map.get t q ≡ map.get (undone cs t) q)
+undone-agrees : (cs : List PlaceChange) (t : Tables) (q : List ℕ) → Among (places_of cs) q ⊎ (map.get t q ≡ map.get (undone cs t) q)
 undone-agrees [] t q = inr refl
 undone-agrees (c ∷ cs) t q = there (eq_by_cmp bytes_cmp q c.place) refl (undone-agrees cs t q)
   where
@@ -50,21 +50,21 @@ undone-agrees (c ∷ cs) t q = there (eq_by_cmp bytes_cmp q c.place) refl (undon
     there false e (inr s) = inr (s ∙ sym (get-set_at (undone cs t) c.place c.before q ∙ ap (λ b. cond b c.before (map.get (undone cs t) q)) e))
 
 -- the changes, written over the rows last settled, give the rows
-pub written-undone : (cs : List Change) (t : Tables) → written (places_of cs) t (undone cs t) ≡ t
+pub written-undone : (cs : List PlaceChange) (t : Tables) → written (places_of cs) t (undone cs t) ≡ t
 written-undone cs t = written-agrees (places_of cs) t (undone cs t) (undone-agrees cs t)
 
-pub length-places_of : (cs : List Change) → length (places_of cs) ≡ length cs
+pub length-places_of : (cs : List PlaceChange) → length (places_of cs) ≡ length cs
 length-places_of [] = refl
 length-places_of (c ∷ cs) = ap suc (length-places_of cs)
 
 -- the place of a change in the list
-pub slice_get-places_of : (cs : List Change) (i : ℕ) (c : Change) → i < length cs → c ≡ get_or cs i c → slice_get (places_of cs) i ≡ Some c.place
+pub slice_get-places_of : (cs : List PlaceChange) (i : ℕ) (c : PlaceChange) → i < length cs → c ≡ get_or cs i c → slice_get (places_of cs) i ≡ Some c.place
 slice_get-places_of [] i c h e = absurd (omega arith)
 slice_get-places_of (d ∷ cs) zero c h e = ap (λ x. Some x.place) (sym e)
 slice_get-places_of (d ∷ cs) (suc i) c h e = slice_get-places_of cs i c (omega arith) e
 
 -- each change has a place
-pub IsPlace-at : (cs : List Change) (es : Entries) (i : ℕ) (c : Change) → HavePlaces cs es → i < length cs → c ≡ get_or cs i c → IsPlace c.place
+pub IsPlace-at : (cs : List PlaceChange) (es : Entries) (i : ℕ) (c : PlaceChange) → HavePlaces cs es → i < length cs → c ≡ get_or cs i c → IsPlace c.place
 IsPlace-at [] es i c v h e = absurd (omega arith)
 IsPlace-at (d ∷ cs) es zero c v h e = subst (λ x. IsPlace x.place) (sym e) v.0
 IsPlace-at (d ∷ cs) es (suc i) c v h e = IsPlace-at cs es i c v.2 (omega arith) e

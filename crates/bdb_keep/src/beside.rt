@@ -1,4 +1,4 @@
-// Finding and changing places beside the mark that was set last. In work in the order of the places this is where they are, and no
+// Finding and changing places beside the cursor that was set last. In work in the order of the places this is where they are, and no
 // shelf is looked for.
 ghost use Rattle.std.specs.Prelude.{◌≡◌, ◌<◌, ◌≤◌, true, Some, None, IfOk, IfErr, IfSome, IfNone, OnOk, OnErr, OnSome, length};
 ghost use Prim.Native.Nat.{suc};
@@ -7,7 +7,7 @@ ghost use Rattle.bdb_keep.specs.Entries.{place_at, row_of, IsSetAt};
 ghost use Rattle.bdb_keep.specs.Blocks.{joined, AreSorted};
 ghost use Rattle.bdb_keep.specs.Shelves.{IsFirstRow};
 
-use crate::cursors::Mark;
+use crate::cursors::Cursor;
 use crate::entry::Entry;
 use crate::row::Row;
 use crate::shelf::Shelf;
@@ -15,18 +15,18 @@ use crate::shelves::shelf_at;
 use crate::words::Probe;
 use std::alloc::{AllocError, Global};
 
-/// Where a place stands or would stand, and the row there, if there is one. None where it isn't beside the mark.
+/// Where a place stands or would stand, and the row there, if there is one. None where it isn't beside the cursor.
 #[inline(always)]
 pub fn row_beside<'a>(
     shelves: &'a [Shelf],
-    mark: Mark,
+    cursor: Cursor,
     probe: &Probe<'_>,
-) -> Option<(Mark, Option<&'a [u8]>)>
+) -> Option<(Cursor, Option<&'a [u8]>)>
     requires { AreSorted shelves.now }
     ensures { IfSome result
         (λ found. option_copied found.1 ≡ row_of (place_at (joined shelves.now) probe.now)) }
 {
-    let (at, spot) = mark;
+    let (at, spot) = cursor;
     if at >= shelves.len() {
         return None;
     }
@@ -37,17 +37,17 @@ pub fn row_beside<'a>(
 }
 
 /// Where the first place stands that has a row and isn't below the one that is looked for, and its entry. None where it isn't beside
-/// the mark.
+/// the cursor.
 #[inline(always)]
 pub fn first_row_beside<'a>(
     shelves: &'a [Shelf],
-    mark: Mark,
+    cursor: Cursor,
     probe: &Probe<'_>,
-) -> Option<(Mark, &'a Entry)>
+) -> Option<(Cursor, &'a Entry)>
     requires { AreSorted shelves.now }
     ensures { IfSome result (λ first. IsFirstRow (joined shelves.now) probe.now first.1.now) }
 {
-    let (at, spot) = mark;
+    let (at, spot) = cursor;
     if at >= shelves.len() {
         return None;
     }
@@ -58,14 +58,14 @@ pub fn first_row_beside<'a>(
 }
 
 /// Puts what stands at a place, and answers where, and what stood there. The answer is the new row where no such place is beside the
-/// mark.
+/// cursor.
 #[inline(always)]
 pub fn swap_beside(
     shelves: &mut Vec<Shelf>,
-    mark: Mark,
+    cursor: Cursor,
     probe: &Probe<'_>,
     row: Option<Row>,
-) -> Result<(Mark, Option<Row>), Option<Row>>
+) -> Result<(Cursor, Option<Row>), Option<Row>>
     requires { AreSorted shelves.old.items }
     ensures sorted { AreSorted shelves.new.items }
     ensures found { IfOk result (λ before. place_at (joined shelves.old.items) probe.now
@@ -75,7 +75,7 @@ pub fn swap_beside(
     ensures back { IfErr result (λ back. back ≡ row) }
     ensures same { OnErr result (joined shelves.new.items ≡ joined shelves.old.items) }
 {
-    let (at, spot) = mark;
+    let (at, spot) = cursor;
     if at >= shelves.len() {
         return Err(row);
     }
@@ -86,15 +86,15 @@ pub fn swap_beside(
 }
 
 /// Puts a row at a place, which may be new, and answers where, and what stood there: at Some what the place had, at None nothing. None
-/// where the place isn't beside the mark.
+/// where the place isn't beside the cursor.
 #[inline(always)]
 pub fn insert_beside(
     alloc: Global,
     shelves: &mut Vec<Shelf>,
-    mark: Mark,
+    cursor: Cursor,
     probe: &Probe<'_>,
     row: &[u8],
-) -> Result<Option<(Mark, Option<Option<Row>>)>, AllocError>
+) -> Result<Option<(Cursor, Option<Option<Row>>)>, AllocError>
     requires { AreSorted shelves.old.items }
     ensures sorted { AreSorted shelves.new.items }
     ensures found { IfOk result (λ put. IfSome put
@@ -105,7 +105,7 @@ pub fn insert_beside(
         (λ put. IfNone put (joined shelves.new.items ≡ joined shelves.old.items)) }
     ensures err { OnErr result (joined shelves.new.items ≡ joined shelves.old.items) }
 {
-    let (at, spot) = mark;
+    let (at, spot) = cursor;
     if at >= shelves.len() {
         return Ok(None);
     }

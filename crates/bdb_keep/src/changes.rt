@@ -13,7 +13,7 @@ use std::alloc::{AllocError, Global};
 
 /// A change of a transaction: where it was made, and the row that stood there before.
 #[derive(Drop)]
-pub struct Change {
+pub struct PlaceChange {
     pub place: Place,
     pub before: Option<Row>,
 }
@@ -46,6 +46,9 @@ pub fn insert_row(rows: &mut Rows, probe: &Probe<'_>, row: &[u8]) -> Result<Opti
     ensures keeps { OnOk result (KeepsPlaces rows.old rows.new) }
     ensures err { OnErr result (rows.new ≡ rows.old) }
 {
+    if rows.add_beside(probe, row) {
+        return Ok(None);
+    }
     match rows.insert(probe, row) {
         Ok(Some(before)) => Ok(before),
         Ok(None) => Ok(None),
@@ -71,7 +74,7 @@ pub fn empty_place(rows: &mut Rows, probe: &Probe<'_>) -> Option<Row>
 pub fn put_row(
     alloc: Global,
     rows: &mut Rows,
-    changes: &mut Vec<Change>,
+    changes: &mut Vec<PlaceChange>,
     tab: u8,
     key: &[u8],
     row: &[u8],
@@ -93,7 +96,7 @@ pub fn put_row(
     }
     changes.reserve(1)?;
     let before = insert_row(rows, &probe, row)?;
-    changes.push_reserved(Change {
+    changes.push_reserved(PlaceChange {
         place: Place::near(&probe),
         before,
     });
@@ -104,7 +107,7 @@ pub fn put_row(
 fn put_far(
     alloc: Global,
     rows: &mut Rows,
-    changes: &mut Vec<Change>,
+    changes: &mut Vec<PlaceChange>,
     tab: u8,
     key: &[u8],
     row: &[u8],
@@ -124,7 +127,7 @@ fn put_far(
     let place = Place::far(alloc, tab, key)?;
     let probe = Probe::of(tab, key);
     let before = insert_row(rows, &probe, row)?;
-    changes.push_reserved(Change { place, before });
+    changes.push_reserved(PlaceChange { place, before });
     Ok(())
 }
 
@@ -132,7 +135,7 @@ fn put_far(
 /// After a refusal nothing changed.
 pub fn take_row(
     rows: &mut Rows,
-    changes: &mut Vec<Change>,
+    changes: &mut Vec<PlaceChange>,
     place: Place,
 ) -> Result<bool, AllocError>
     requires place { IsPlace place }
@@ -151,7 +154,7 @@ pub fn take_row(
     changes.reserve(1)?;
     match empty_place(rows, &place.probe()) {
         Some(row) => {
-            changes.push_reserved(Change {
+            changes.push_reserved(PlaceChange {
                 place,
                 before: Some(row),
             });
@@ -162,7 +165,7 @@ pub fn take_row(
 }
 
 /// Forgets the changes. The places that were left empty go where they are many.
-pub fn settle(rows: &mut Rows, changes: &mut Vec<Change>)
+pub fn forget(rows: &mut Rows, changes: &mut Vec<PlaceChange>)
     ensures rows { rows_of rows.new ≡ rows_of rows.old }
     ensures none { changes.new.items ≡ [] }
 {
@@ -171,7 +174,7 @@ pub fn settle(rows: &mut Rows, changes: &mut Vec<Change>)
 }
 
 /// Undoes the changes, the newest first, and leaves their places.
-pub fn roll_back(rows: &mut Rows, changes: &mut Vec<Change>)
+pub fn roll_back(rows: &mut Rows, changes: &mut Vec<PlaceChange>)
     requires { HavePlaces changes.old.items rows.old }
     ensures { rows_of rows.new ≡ undone changes.old.items (rows_of rows.old) }
 {
@@ -183,7 +186,7 @@ pub fn roll_back(rows: &mut Rows, changes: &mut Vec<Change>)
 }
 
 /// Undoes a change. Its place is there.
-pub fn put_back(rows: &mut Rows, change: &mut Change)
+pub fn put_back(rows: &mut Rows, change: &mut PlaceChange)
     requires { IsSome (place_at rows.old change.old.place) }
     ensures rows { rows_of rows.new ≡ set_at (rows_of rows.old) change.old.place change.old.before }
     ensures keeps { KeepsPlaces rows.old rows.new }

@@ -4,32 +4,32 @@ use crate::words::Probe;
 use std::alloc::Global;
 
 /// What is remembered of a place that was used: its shelf, and its spot there.
-pub type Mark = (usize, Spot);
+pub type Cursor = (usize, Spot);
 
-/// Where is looked first: beside a mark, and then on the shelf of another one and a few behind it, beside its spot.
-pub type Marks = (Mark, Mark);
+/// Where is looked first: beside a cursor, and then on the shelf of another one and a few behind it, beside its spot.
+pub type CursorPair = (Cursor, Cursor);
 
-/// A mark in few bytes.
+/// A cursor in few bytes.
 type Slot = (u32, u16, u16);
 
 /// The first place of all.
-const START: Mark = (0, (0, 0));
+const START: Cursor = (0, (0, 0));
 
-/// How many marks are remembered by the first bytes of keys.
+/// How many cursors are remembered by the first bytes of keys.
 const SLOTS: usize = 8192;
 
 /// For each table the place that was read last and the one that was written last, so that both are found at once where rows are read
 /// in one place and written in another in turn; and the place that was used last among those whose keys begin with the same four bytes,
-/// which most often lie near each other. A mark only says where a search looks first.
+/// which most often lie near each other. A cursor only says where a search looks first.
 #[derive(Drop)]
 pub struct Cursors {
     alloc: Global,
-    read: [Mark; 16],
-    written: [Mark; 16],
+    read: [Cursor; 16],
+    written: [Cursor; 16],
     /// Whether the last write was in the block that was read last.
     follows: [bool; 16],
     used: Vec<Slot>,
-    /// Whether memory was asked for those marks.
+    /// Whether memory was asked for those cursors.
     asked: bool,
 }
 
@@ -46,7 +46,7 @@ impl Cursors {
         }
     }
 
-    /// Takes the memory for marks remembered by the first bytes of keys. It is asked for once: where it is refused, no such mark is
+    /// Takes the memory for cursors remembered by the first bytes of keys. It is asked for once: where it is refused, no such cursor is
     /// ever remembered.
     #[inline(always)]
     pub fn make_room(&mut self) {
@@ -56,9 +56,9 @@ impl Cursors {
         }
     }
 
-    /// The marks for a read.
+    /// The cursors for a read.
     #[inline(always)]
-    pub fn to_read(&self, probe: &Probe<'_>) -> Marks {
+    pub fn to_read(&self, probe: &Probe<'_>) -> CursorPair {
         (
             self.read[usize::from(probe.tab() % 16)],
             self.used_by(probe),
@@ -67,13 +67,13 @@ impl Cursors {
 
     /// Where the table of a place was written last.
     #[inline(always)]
-    pub fn last_written(&self, probe: &Probe<'_>) -> Mark {
+    pub fn last_written(&self, probe: &Probe<'_>) -> Cursor {
         self.written[usize::from(probe.tab() % 16)]
     }
 
-    /// The marks for a write. Where the last one was in the block that was read last, so may be this one.
+    /// The cursors for a write. Where the last one was in the block that was read last, so may be this one.
     #[inline(always)]
-    pub fn to_write(&self, probe: &Probe<'_>) -> Marks {
+    pub fn to_write(&self, probe: &Probe<'_>) -> CursorPair {
         let at = usize::from(probe.tab() % 16);
         let last = if self.follows[at] {
             self.read[at]
@@ -85,23 +85,23 @@ impl Cursors {
 
     /// Remembers where a table was read.
     #[inline(always)]
-    pub fn remember_read(&mut self, probe: &Probe<'_>, mark: Mark) {
-        self.read[usize::from(probe.tab() % 16)] = mark;
-        self.remember_used(probe, mark);
+    pub fn remember_read(&mut self, probe: &Probe<'_>, cursor: Cursor) {
+        self.read[usize::from(probe.tab() % 16)] = cursor;
+        self.remember_used(probe, cursor);
     }
 
     /// Remembers where a table was written.
     #[inline(always)]
-    pub fn remember_written(&mut self, probe: &Probe<'_>, mark: Mark) {
+    pub fn remember_written(&mut self, probe: &Probe<'_>, cursor: Cursor) {
         let at = usize::from(probe.tab() % 16);
-        self.written[at] = mark;
-        self.follows[at] = is_in_block(self.read[at], mark);
-        self.remember_used(probe, mark);
+        self.written[at] = cursor;
+        self.follows[at] = is_in_block(self.read[at], cursor);
+        self.remember_used(probe, cursor);
     }
 
     /// The place that was used last for keys with the same first bytes.
     #[inline(always)]
-    fn used_by(&self, probe: &Probe<'_>) -> Mark {
+    fn used_by(&self, probe: &Probe<'_>) -> Cursor {
         let slot = slot_of(probe);
         if slot < self.used.len() {
             let (at, block, index) = self.used[slot];
@@ -111,12 +111,12 @@ impl Cursors {
         }
     }
 
-    /// Remembers a mark, where there is room. It takes no memory.
+    /// Remembers a cursor, where there is room. It takes no memory.
     #[inline(always)]
-    fn remember_used(&mut self, probe: &Probe<'_>, mark: Mark) {
+    fn remember_used(&mut self, probe: &Probe<'_>, cursor: Cursor) {
         let slot = slot_of(probe);
         if slot < self.used.len() {
-            let (at, (block, index)) = mark;
+            let (at, (block, index)) = cursor;
             self.used[slot] = (
                 (at % 0x1_0000_0000) as u32,
                 (block % 0x1_0000) as u16,
@@ -126,13 +126,13 @@ impl Cursors {
     }
 }
 
-/// Whether two marks are in one block.
+/// Whether two cursors are in one block.
 #[inline(always)]
-fn is_in_block(one: Mark, other: Mark) -> bool {
+fn is_in_block(one: Cursor, other: Cursor) -> bool {
     one.0 == other.0 && one.1.0 == other.1.0
 }
 
-/// Slots that know of no place; none where memory is wanting.
+/// Slots that know of no place; none where memory runs out.
 fn slots(alloc: Global) -> Vec<Slot> {
     match vec![in alloc; (0u32, 0u16, 0u16); SLOTS] {
         Ok(slots) => slots,

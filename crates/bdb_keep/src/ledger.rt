@@ -307,7 +307,7 @@ impl Ledger {
         } }
         ensures counts { NeverFall self.old.seen self.new.seen }
     {
-        self.store.settle();
+        self.store.forget();
         self.running = false;
         self.commits = self.commits.saturating_add(1);
     }

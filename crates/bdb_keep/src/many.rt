@@ -6,7 +6,7 @@ ghost use Rattle.bdb_keep.specs.Changes.{undone, HavePlaces};
 ghost use Rattle.bdb_keep.specs.Spans.{with_rows, without_rows};
 ghost use Rattle.bdb_keep.specs.Tables.{IsPlace};
 
-use crate::changes::{Change, empty_place, put_row, take_row};
+use crate::changes::{PlaceChange, empty_place, put_row, take_row};
 use crate::place::Place;
 use crate::row::Row;
 use crate::rows::Rows;
@@ -19,7 +19,7 @@ use std::alloc::{AllocError, Global};
 pub fn put_rows(
     alloc: Global,
     rows: &mut Rows,
-    changes: &mut Vec<Change>,
+    changes: &mut Vec<PlaceChange>,
     tab: u8,
     span: &Span,
 ) -> Result<(), AllocError>
@@ -43,7 +43,7 @@ pub fn put_rows(
 pub fn take_rows(
     alloc: Global,
     rows: &mut Rows,
-    changes: &mut Vec<Change>,
+    changes: &mut Vec<PlaceChange>,
     tab: u8,
     span: &Span,
 ) -> Result<(), AllocError>
@@ -67,7 +67,7 @@ pub fn take_rows(
 fn put_next(
     alloc: Global,
     rows: &mut Rows,
-    changes: &mut Vec<Change>,
+    changes: &mut Vec<PlaceChange>,
     tab: u8,
     key: &[u8],
     row: &[u8],
@@ -92,7 +92,7 @@ fn put_next(
 #[inline(always)]
 fn put_behind(
     rows: &mut Rows,
-    changes: &mut Vec<Change>,
+    changes: &mut Vec<PlaceChange>,
     tab: u8,
     key: &[u8],
     row: &[u8],
@@ -113,7 +113,7 @@ fn put_behind(
     changes.reserve(1)?;
     match rows.put_behind(&probe, row) {
         Some(before) => {
-            changes.push_reserved(Change {
+            changes.push_reserved(PlaceChange {
                 place: Place::near(&probe),
                 before,
             });
@@ -128,7 +128,7 @@ fn put_behind(
 fn take_next(
     alloc: Global,
     rows: &mut Rows,
-    changes: &mut Vec<Change>,
+    changes: &mut Vec<PlaceChange>,
     tab: u8,
     key: &[u8],
 ) -> Result<(), AllocError>
@@ -146,7 +146,7 @@ fn take_next(
     changes.reserve(1)?;
     match empty_next(rows, &probe) {
         Some(row) => {
-            changes.push_reserved(Change {
+            changes.push_reserved(PlaceChange {
                 place: Place::near(&probe),
                 before: Some(row),
             });
@@ -160,7 +160,7 @@ fn take_next(
 fn take_far(
     alloc: Global,
     rows: &mut Rows,
-    changes: &mut Vec<Change>,
+    changes: &mut Vec<PlaceChange>,
     tab: u8,
     key: &[u8],
 ) -> Result<(), AllocError>

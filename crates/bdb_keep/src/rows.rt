@@ -1,5 +1,5 @@
 // The rows by place, on sorted shelves, where a removed row leaves an empty place.
-ghost use Rattle.std.specs.Prelude.{◌≡◌, [], Some, None, IfOk, IfErr, IfSome, IfNone, ◌↔◌, OnSome, OnOk, OnErr, IsTrue, MatchBool, false, if◌then◌else◌};
+ghost use Rattle.std.specs.Prelude.{◌≡◌, [], Some, None, IfOk, IfErr, IfSome, IfNone, ◌↔◌, OnSome, OnOk, OnErr, IsTrue, MatchBool, true, false, if◌then◌else◌};
 ghost use Rattle.std.specs.Option.{option_map};
 ghost use Rattle.std.specs.FinMap as map;
 ghost use Rattle.bdb_keep.specs.Entries.{place_at, row_of, rows_of, IsSetAt, IsAmong, AreAmong};
@@ -74,10 +74,10 @@ impl Rows {
         let has_row = row.is_some();
         let is = has_marked_in(TABLE, probe, &row);
         match shelves::swap(&mut self.shelves, near, probe, row) {
-            Ok((mark, before)) => {
+            Ok((cursor, before)) => {
                 self.tally
                     .note(probe, has_marked_in(TABLE, probe, &before), is);
-                self.cursors.remember_written(probe, mark);
+                self.cursors.remember_written(probe, cursor);
                 self.census.swapped(before.is_some(), has_row);
                 Ok(before)
             }
@@ -98,16 +98,37 @@ impl Rows {
     {
         self.cursors.make_room();
         let near = self.cursors.to_write(probe);
-        let (mark, before) = shelves::insert(self.alloc, &mut self.shelves, near, probe, row)?;
+        let (cursor, before) = shelves::insert(self.alloc, &mut self.shelves, near, probe, row)?;
         let was = had_marked_in(TABLE, probe, &before);
         self.tally.note(probe, was, is_marked_in(TABLE, probe, row));
-        self.cursors.remember_written(probe, mark);
+        self.cursors.remember_written(probe, cursor);
         self.census.inserted(&before);
         Ok(before)
     }
 
+    /// Puts a row at a place that is new, and answers whether it is. Nothing changes where it isn't beside the one that was used last in its
+    /// table, or memory is wanting, and then the answer is false as well.
+    #[inline(always)]
+    pub fn add_beside(&mut self, probe: &Probe<'_>, row: &[u8]) -> bool
+        ensures absent { result ≡ true → place_at self.old probe.now ≡ None }
+        ensures set { result ≡ true → IsSetAt self.old self.new probe.now (Some (Some row.now)) }
+        ensures same { result ≡ false → self.new ≡ self.old }
+    {
+        let (last, _) = self.cursors.to_write(probe);
+        match runs::add_beside(self.alloc, &mut self.shelves, last, probe, row) {
+            Some(cursor) => {
+                self.tally
+                    .note(probe, false, is_marked_in(TABLE, probe, row));
+                self.cursors.remember_written(probe, cursor);
+                self.census.put(true, false);
+                true
+            }
+            None => false,
+        }
+    }
+
     /// Puts a row at a place, and answers the row that stood there. None, and nothing changes, where the place doesn't come right behind
-    /// the one that was written last in its table, or memory is wanting.
+    /// the one that was written last in its table, or memory runs out.
     #[inline(always)]
     pub fn put_behind(&mut self, probe: &Probe<'_>, row: &[u8]) -> Option<Option<Row>>
         ensures found { IfSome result
@@ -117,10 +138,10 @@ impl Rows {
     {
         let last = self.cursors.last_written(probe);
         match runs::put_behind(self.alloc, &mut self.shelves, last, probe, row) {
-            Some((mark, is_new, before)) => {
+            Some((cursor, is_new, before)) => {
                 let was = has_marked_in(TABLE, probe, &before);
                 self.tally.note(probe, was, is_marked_in(TABLE, probe, row));
-                self.cursors.remember_written(probe, mark);
+                self.cursors.remember_written(probe, cursor);
                 self.census.put(is_new, before.is_some());
                 Some(before)
             }
@@ -138,10 +159,10 @@ impl Rows {
     {
         let last = self.cursors.last_written(probe);
         match runs::empty_behind(&mut self.shelves, last, probe) {
-            Some((mark, before)) => {
+            Some((cursor, before)) => {
                 self.tally
                     .note(probe, has_marked_in(TABLE, probe, &before), false);
-                self.cursors.remember_written(probe, mark);
+                self.cursors.remember_written(probe, cursor);
                 self.census.swapped(before.is_some(), false);
                 Some(before)
             }
@@ -174,9 +195,9 @@ impl Rows {
     {
         let was = self.has_marked(probe);
         let near = self.cursors.to_write(probe);
-        let mark = shelves::remove(&mut self.shelves, near, probe);
+        let cursor = shelves::remove(&mut self.shelves, near, probe);
         self.tally.note(probe, was, false);
-        self.cursors.remember_written(probe, mark);
+        self.cursors.remember_written(probe, cursor);
     }
 }
 
@@ -190,8 +211,8 @@ impl Rows {
         ensures same { self.new ≡ self.old }
     {
         let near = self.cursors.to_read(probe);
-        let (mark, found) = shelves::read(&self.shelves, near, probe, row)?;
-        self.cursors.remember_read(probe, mark);
+        let (cursor, found) = shelves::read(&self.shelves, near, probe, row)?;
+        self.cursors.remember_read(probe, cursor);
         Ok(found)
     }
 
@@ -212,8 +233,8 @@ impl Rows {
     {
         let probe = Probe::of(tab, low);
         let near = self.cursors.to_read(&probe);
-        let (mark, found) = shelves::read_first(&self.shelves, near, &probe, tab, low, key, row)?;
-        self.cursors.remember_read(&probe, mark);
+        let (cursor, found) = shelves::read_first(&self.shelves, near, &probe, tab, low, key, row)?;
+        self.cursors.remember_read(&probe, cursor);
         Ok(found)
     }
 
@@ -224,8 +245,8 @@ impl Rows {
     {
         let probe = Probe::of(tab, prefix);
         let near = self.cursors.to_read(&probe);
-        let mark = shelves::read_under(&self.shelves, near, &probe, tab, prefix, span)?;
-        self.cursors.remember_read(&probe, mark);
+        let cursor = shelves::read_under(&self.shelves, near, &probe, tab, prefix, span)?;
+        self.cursors.remember_read(&probe, cursor);
         Ok(())
     }
 

@@ -4,7 +4,7 @@ ghost use Rattle.bdb_keep.specs.Entries.{place_at, row_of, IsSetAt};
 ghost use Rattle.bdb_keep.specs.Blocks.{joined, AreSorted};
 
 use crate::beside::is_last_shelf;
-use crate::cursors::Mark;
+use crate::cursors::Cursor;
 use crate::row::Row;
 use crate::shelf::Shelf;
 use crate::shelves::{cut_full, has_room};
@@ -12,15 +12,15 @@ use crate::words::Probe;
 use std::alloc::Global;
 
 /// Puts a row at a place, and answers where, whether the place is new, and the row that stood there. None, and nothing changes, where the
-/// place doesn't come right behind the mark, or memory is wanting.
+/// place doesn't come right behind the cursor, or memory runs out.
 #[inline(always)]
 pub fn put_behind(
     alloc: Global,
     shelves: &mut Vec<Shelf>,
-    mark: Mark,
+    cursor: Cursor,
     probe: &Probe<'_>,
     row: &[u8],
-) -> Option<(Mark, bool, Option<Row>)>
+) -> Option<(Cursor, bool, Option<Row>)>
     requires { AreSorted shelves.old.items }
     ensures sorted { AreSorted shelves.new.items }
     ensures found { IfSome result
@@ -29,23 +29,23 @@ pub fn put_behind(
         probe.now (Some (Some row.now))) }
     ensures same { IfNone result (joined shelves.new.items ≡ joined shelves.old.items) }
 {
-    match put_on(alloc, shelves, mark, probe, row) {
-        Some((mark, is_new, before)) => Some((cut_if_full(shelves, mark), is_new, before)),
+    match put_on(alloc, shelves, cursor, probe, row) {
+        Some((cursor, is_new, before)) => Some((cut_if_full(shelves, cursor), is_new, before)),
         None => None,
     }
 }
 
-/// Cuts the shelf of a mark in two where it is full, and answers where the mark is then.
+/// Cuts the shelf of a cursor in two where it is full, and answers where the cursor is then.
 #[inline(always)]
-fn cut_if_full(shelves: &mut Vec<Shelf>, mark: Mark) -> Mark
+fn cut_if_full(shelves: &mut Vec<Shelf>, cursor: Cursor) -> Cursor
     requires { AreSorted shelves.old.items }
     ensures sorted { AreSorted shelves.new.items }
     ensures same { joined shelves.new.items ≡ joined shelves.old.items }
 {
-    if has_room(shelves, mark.0) {
-        return mark;
+    if has_room(shelves, cursor.0) {
+        return cursor;
     }
-    cut_full(shelves, mark)
+    cut_full(shelves, cursor)
 }
 
 /// The same, where the shelf isn't cut.
@@ -53,10 +53,10 @@ fn cut_if_full(shelves: &mut Vec<Shelf>, mark: Mark) -> Mark
 fn put_on(
     alloc: Global,
     shelves: &mut Vec<Shelf>,
-    mark: Mark,
+    cursor: Cursor,
     probe: &Probe<'_>,
     row: &[u8],
-) -> Option<(Mark, bool, Option<Row>)>
+) -> Option<(Cursor, bool, Option<Row>)>
     requires { AreSorted shelves.old.items }
     ensures sorted { AreSorted shelves.new.items }
     ensures found { IfSome result
@@ -65,7 +65,7 @@ fn put_on(
         probe.now (Some (Some row.now))) }
     ensures same { IfNone result (joined shelves.new.items ≡ joined shelves.old.items) }
 {
-    let (at, spot) = mark;
+    let (at, spot) = cursor;
     if at >= shelves.len() {
         return None;
     }
@@ -76,14 +76,64 @@ fn put_on(
     }
 }
 
+/// Puts a row at a new place, and answers where. None, and nothing changes, where the place is there already, or isn't beside the cursor, or
+/// memory is wanting.
+#[inline(always)]
+pub fn add_beside(
+    alloc: Global,
+    shelves: &mut Vec<Shelf>,
+    cursor: Cursor,
+    probe: &Probe<'_>,
+    row: &[u8],
+) -> Option<Cursor>
+    requires { AreSorted shelves.old.items }
+    ensures sorted { AreSorted shelves.new.items }
+    ensures absent { OnSome result (place_at (joined shelves.old.items) probe.now ≡ None) }
+    ensures set { OnSome result (IsSetAt (joined shelves.old.items) (joined shelves.new.items)
+        probe.now (Some (Some row.now))) }
+    ensures same { IfNone result (joined shelves.new.items ≡ joined shelves.old.items) }
+{
+    match add_on(alloc, shelves, cursor, probe, row) {
+        Some(cursor) => Some(cut_if_full(shelves, cursor)),
+        None => None,
+    }
+}
+
+/// The same, where the shelf isn't cut.
+#[inline(always)]
+fn add_on(
+    alloc: Global,
+    shelves: &mut Vec<Shelf>,
+    cursor: Cursor,
+    probe: &Probe<'_>,
+    row: &[u8],
+) -> Option<Cursor>
+    requires { AreSorted shelves.old.items }
+    ensures sorted { AreSorted shelves.new.items }
+    ensures absent { OnSome result (place_at (joined shelves.old.items) probe.now ≡ None) }
+    ensures set { OnSome result (IsSetAt (joined shelves.old.items) (joined shelves.new.items)
+        probe.now (Some (Some row.now))) }
+    ensures same { IfNone result (joined shelves.new.items ≡ joined shelves.old.items) }
+{
+    let (at, spot) = cursor;
+    if at >= shelves.len() {
+        return None;
+    }
+    let is_last = is_last_shelf(shelves, at);
+    match shelves[at].add_beside(alloc, spot, is_last, probe, row) {
+        Some(spot) => Some((at, spot)),
+        None => None,
+    }
+}
+
 /// Empties a place, and answers where it stands, and the row that stood there. None, and nothing changes, where it isn't the first one
-/// behind the mark.
+/// behind the cursor.
 #[inline(always)]
 pub fn empty_behind(
     shelves: &mut Vec<Shelf>,
-    mark: Mark,
+    cursor: Cursor,
     probe: &Probe<'_>,
-) -> Option<(Mark, Option<Row>)>
+) -> Option<(Cursor, Option<Row>)>
     requires { AreSorted shelves.old.items }
     ensures sorted { AreSorted shelves.new.items }
     ensures found { IfSome result (λ before. place_at (joined shelves.old.items) probe.now
@@ -92,7 +142,7 @@ pub fn empty_behind(
         probe.now (Some None)) }
     ensures same { IfNone result (joined shelves.new.items ≡ joined shelves.old.items) }
 {
-    let (at, spot) = mark;
+    let (at, spot) = cursor;
     if at >= shelves.len() {
         return None;
     }

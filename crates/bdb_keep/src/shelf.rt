@@ -266,6 +266,36 @@ impl Shelf {
         }
     }
 
+    /// Puts a row at a new place, and answers where. None, and nothing changes, where the place is there already, where it isn't sure that it
+    /// belongs on this shelf, or where memory is wanting.
+    #[inline(always)]
+    pub fn add_beside(
+        &mut self,
+        alloc: Global,
+        spot: Spot,
+        is_last: bool,
+        probe: &Probe<'_>,
+        row: &[u8],
+    ) -> Option<Spot>
+        ensures absent { OnSome result (place_at self.old probe.now ≡ None) }
+        ensures set { OnSome result
+            (IsChangedAt self.old self.new probe.now (place_at self.old probe.now)
+            (Some (Some row.now))) }
+        ensures belongs { OnSome result (BelongsAmong self.old probe.now is_last) }
+        ensures same { IfNone result (self.new ≡ self.old) }
+    {
+        match find_beside(&self.blocks, spot, is_last, probe) {
+            Some(Err(at)) => {
+                match add(alloc, &mut self.blocks, at, is_behind(spot, at), probe, row) {
+                    Ok(at) => Some(at),
+                    Err(_) => None,
+                }
+            }
+            Some(Ok(_)) => None,
+            None => None,
+        }
+    }
+
     /// Puts a row at a place, which may be new, and answers where, and what stood there: at Some what the place had, at None nothing. None
     /// where it isn't sure that the place belongs on this shelf.
     #[inline(always)]
@@ -306,7 +336,7 @@ impl Shelf {
 /// What is done right behind a spot, where rows are put or taken away in the order of their places.
 impl Shelf {
     /// Puts a row at a place, and answers where, whether the place is new, and the row that stood there. None, and nothing changes, where
-    /// the place doesn't come right behind the spot, or memory is wanting.
+    /// the place doesn't come right behind the spot, or memory runs out.
     #[inline(always)]
     pub fn put_behind(
         &mut self,

@@ -8,7 +8,7 @@ ghost use Rattle.bdb_keep.specs.Spans.{AreRowsUnder, entries_under};
 ghost use Rattle.bdb_keep.specs.Shelves.{NoRowFrom, IsFirstRow};
 
 use crate::beside::{first_row_beside, insert_beside, row_beside, swap_beside};
-use crate::cursors::{Mark, Marks};
+use crate::cursors::{Cursor, CursorPair};
 use crate::entry::Entry;
 use crate::finding::Spot;
 use crate::reading::{copy_row, give};
@@ -27,23 +27,27 @@ const LOOKED_AT: usize = 4;
 /// Reads the row at a place, and answers where it stands or would stand, and whether there is one.
 pub fn read(
     shelves: &[Shelf],
-    near: Marks,
+    near: CursorPair,
     probe: &Probe<'_>,
     row: &mut Vec<u8>,
-) -> Result<(Mark, bool), AllocError>
+) -> Result<(Cursor, bool), AllocError>
     requires { AreSorted shelves.now }
     ensures found { IfOk result (λ found. row_of (place_at (joined shelves.now) probe.now)
         ≡ (if found.1 then Some row.new.items else None)) }
     ensures empty { IfOk result (λ found. found.1 ≡ false → row.new.items ≡ []) }
 {
-    let (mark, there) = row_at(shelves, near, probe);
+    let (cursor, there) = row_at(shelves, near, probe);
     let found = copy_row(there, row)?;
-    Ok((mark, found))
+    Ok((cursor, found))
 }
 
 /// Where a place stands or would stand, and the row there, if there is one.
 #[inline(always)]
-pub fn row_at<'a>(shelves: &'a [Shelf], near: Marks, probe: &Probe<'_>) -> (Mark, Option<&'a [u8]>)
+pub fn row_at<'a>(
+    shelves: &'a [Shelf],
+    near: CursorPair,
+    probe: &Probe<'_>,
+) -> (Cursor, Option<&'a [u8]>)
     requires { AreSorted shelves.now }
     ensures { option_copied result.1 ≡ row_of (place_at (joined shelves.now) probe.now) }
 {
@@ -56,9 +60,9 @@ pub fn row_at<'a>(shelves: &'a [Shelf], near: Marks, probe: &Probe<'_>) -> (Mark
 /// The same by the shelf where the place belongs.
 fn row_searched<'a>(
     shelves: &'a [Shelf],
-    near: Marks,
+    near: CursorPair,
     probe: &Probe<'_>,
-) -> (Mark, Option<&'a [u8]>)
+) -> (Cursor, Option<&'a [u8]>)
     requires { AreSorted shelves.now }
     ensures { option_copied result.1 ≡ row_of (place_at (joined shelves.now) probe.now) }
 {
@@ -76,13 +80,13 @@ fn row_searched<'a>(
 #[inline(always)]
 pub fn read_first(
     shelves: &[Shelf],
-    near: Marks,
+    near: CursorPair,
     probe: &Probe<'_>,
     tab: u8,
     low: &[u8],
     key: &mut Vec<u8>,
     row: &mut Vec<u8>,
-) -> Result<(Mark, bool), AllocError>
+) -> Result<(Cursor, bool), AllocError>
     requires sorted { AreSorted shelves.now }
     requires place { probe.now ≡ tab ∷ low.now }
     ensures found { IfOk result (λ found. MatchBool found.1
@@ -92,9 +96,9 @@ pub fn read_first(
         × (row.new.items ≡ [])) }
 {
     match first_row(shelves, near, probe) {
-        Some((mark, entry)) => {
+        Some((cursor, entry)) => {
             let found = give(tab, entry, key, row)?;
-            Ok((mark, found))
+            Ok((cursor, found))
         }
         None => {
             key.clear();
@@ -107,12 +111,12 @@ pub fn read_first(
 /// Makes `span` the rows of a table whose keys begin with these bytes, and answers where the first of them stands or would stand.
 pub fn read_under(
     shelves: &[Shelf],
-    near: Marks,
+    near: CursorPair,
     probe: &Probe<'_>,
     tab: u8,
     prefix: &[u8],
     span: &mut Span,
-) -> Result<Mark, AllocError>
+) -> Result<Cursor, AllocError>
     requires sorted { AreSorted shelves.now }
     requires place { probe.now ≡ tab ∷ prefix.now }
     ensures { OnOk result (AreRowsUnder (rows_of (joined shelves.now)) tab prefix.now span.new) }
@@ -183,10 +187,10 @@ fn read_under_behind(
 /// there is no such place.
 pub fn swap(
     shelves: &mut Vec<Shelf>,
-    near: Marks,
+    near: CursorPair,
     probe: &Probe<'_>,
     row: Option<Row>,
-) -> Result<(Mark, Option<Row>), Option<Row>>
+) -> Result<(Cursor, Option<Row>), Option<Row>>
     requires { AreSorted shelves.old.items }
     ensures sorted { AreSorted shelves.new.items }
     ensures found { IfOk result (λ before. place_at (joined shelves.old.items) probe.now
@@ -206,10 +210,10 @@ pub fn swap(
 /// The same by the shelf where the place belongs.
 fn swap_searched(
     shelves: &mut Vec<Shelf>,
-    near: Marks,
+    near: CursorPair,
     probe: &Probe<'_>,
     row: Option<Row>,
-) -> Result<(Mark, Option<Row>), Option<Row>>
+) -> Result<(Cursor, Option<Row>), Option<Row>>
     requires { AreSorted shelves.old.items }
     ensures sorted { AreSorted shelves.new.items }
     ensures found { IfOk result (λ before. place_at (joined shelves.old.items) probe.now
@@ -232,7 +236,7 @@ fn swap_on(
     at: usize,
     probe: &Probe<'_>,
     row: Option<Row>,
-) -> Result<(Mark, Option<Row>), Option<Row>>
+) -> Result<(Cursor, Option<Row>), Option<Row>>
     requires sorted { AreSorted shelves.old.items }
     requires shelf { IsBlockFor shelves.old.items probe.now at }
     ensures sorted { AreSorted shelves.new.items }
@@ -255,10 +259,10 @@ fn swap_on(
 pub fn insert(
     alloc: Global,
     shelves: &mut Vec<Shelf>,
-    near: Marks,
+    near: CursorPair,
     probe: &Probe<'_>,
     row: &[u8],
-) -> Result<(Mark, Option<Option<Row>>), AllocError>
+) -> Result<(Cursor, Option<Option<Row>>), AllocError>
     requires { AreSorted shelves.old.items }
     ensures sorted { AreSorted shelves.new.items }
     ensures found { IfOk result (λ before. place_at (joined shelves.old.items) probe.now
@@ -268,11 +272,11 @@ pub fn insert(
     ensures err { OnErr result (joined shelves.new.items ≡ joined shelves.old.items) }
 {
     match insert_beside(alloc, shelves, near.0, probe, row) {
-        Ok(Some((mark, before))) => {
-            if has_room(shelves, mark.0) {
-                return Ok((mark, before));
+        Ok(Some((cursor, before))) => {
+            if has_room(shelves, cursor.0) {
+                return Ok((cursor, before));
             }
-            Ok((cut_full(shelves, mark), before))
+            Ok((cut_full(shelves, cursor), before))
         }
         Ok(None) => insert_searched(alloc, shelves, near, probe, row),
         Err(error) => Err(error),
@@ -283,10 +287,10 @@ pub fn insert(
 fn insert_searched(
     alloc: Global,
     shelves: &mut Vec<Shelf>,
-    near: Marks,
+    near: CursorPair,
     probe: &Probe<'_>,
     row: &[u8],
-) -> Result<(Mark, Option<Option<Row>>), AllocError>
+) -> Result<(Cursor, Option<Option<Row>>), AllocError>
     requires { AreSorted shelves.old.items }
     ensures sorted { AreSorted shelves.new.items }
     ensures found { IfOk result (λ before. place_at (joined shelves.old.items) probe.now
@@ -297,8 +301,8 @@ fn insert_searched(
 {
     match shelf_for(shelves, near.1.0, probe) {
         Some(at) => {
-            let (mark, before) = insert_on(alloc, shelves, (at, near.1.1), probe, row)?;
-            Ok((cut_full(shelves, mark), before))
+            let (cursor, before) = insert_on(alloc, shelves, (at, near.1.1), probe, row)?;
+            Ok((cut_full(shelves, cursor), before))
         }
         None => {
             let shelf = Shelf::of(alloc, probe, row)?;
@@ -312,12 +316,12 @@ fn insert_searched(
 fn insert_on(
     alloc: Global,
     shelves: &mut Vec<Shelf>,
-    mark: Mark,
+    cursor: Cursor,
     probe: &Probe<'_>,
     row: &[u8],
-) -> Result<(Mark, Option<Option<Row>>), AllocError>
+) -> Result<(Cursor, Option<Option<Row>>), AllocError>
     requires sorted { AreSorted shelves.old.items }
-    requires shelf { IsBlockFor shelves.old.items probe.now mark.0 }
+    requires shelf { IsBlockFor shelves.old.items probe.now cursor.0 }
     ensures sorted { AreSorted shelves.new.items }
     ensures found { IfOk result (λ before. place_at (joined shelves.old.items) probe.now
         ≡ before.1) }
@@ -325,7 +329,7 @@ fn insert_on(
         probe.now (Some (Some row.now))) }
     ensures err { OnErr result (joined shelves.new.items ≡ joined shelves.old.items) }
 {
-    let (at, spot) = mark;
+    let (at, spot) = cursor;
     match shelves[at].insert(alloc, spot, probe, row) {
         Ok((spot, before)) => Ok(((at, spot), before)),
         Err(error) => Err(error),
@@ -333,7 +337,7 @@ fn insert_on(
 }
 
 /// Takes a place away, with what stands there, and answers where it stood or would stand.
-pub fn remove(shelves: &mut Vec<Shelf>, near: Marks, probe: &Probe<'_>) -> Mark
+pub fn remove(shelves: &mut Vec<Shelf>, near: CursorPair, probe: &Probe<'_>) -> Cursor
     requires { AreSorted shelves.old.items }
     ensures sorted { AreSorted shelves.new.items }
     ensures set { IsSetAt (joined shelves.old.items) (joined shelves.new.items) probe.now None }
@@ -384,25 +388,25 @@ pub fn has_room(shelves: &[Shelf], at: usize) -> bool {
     }
 }
 
-/// Cuts a full shelf in two, and answers where a mark is then. Where memory is wanting the shelf stays whole.
-pub fn cut_full(shelves: &mut Vec<Shelf>, mark: Mark) -> Mark
+/// Cuts a full shelf in two, and answers where a cursor is then. Where memory runs out the shelf stays whole.
+pub fn cut_full(shelves: &mut Vec<Shelf>, cursor: Cursor) -> Cursor
     requires { AreSorted shelves.old.items }
     ensures sorted { AreSorted shelves.new.items }
     ensures same { joined shelves.new.items ≡ joined shelves.old.items }
 {
-    let (at, spot) = mark;
+    let (at, spot) = cursor;
     if at >= shelves.len() {
-        return mark;
+        return cursor;
     }
     let count = shelf_at(shelves, at).block_count();
     if count <= CAPACITY {
-        return mark;
+        return cursor;
     }
     let middle = middle_for(count, spot.0);
     match cut_shelf(shelves, at, middle) {
-        Ok(true) => after_cut(mark, middle),
-        Ok(false) => mark,
-        Err(_) => mark,
+        Ok(true) => after_cut(cursor, middle),
+        Ok(false) => cursor,
+        Err(_) => cursor,
     }
 }
 
@@ -433,11 +437,11 @@ fn middle_for(count: usize, block: usize) -> usize {
     }
 }
 
-/// Where a mark is after its shelf was cut.
-fn after_cut(mark: Mark, middle: usize) -> Mark {
-    let (at, (block, index)) = mark;
+/// Where a cursor is after its shelf was cut.
+fn after_cut(cursor: Cursor, middle: usize) -> Cursor {
+    let (at, (block, index)) = cursor;
     if block < middle {
-        mark
+        cursor
     } else {
         (at.saturating_add(1), (block - middle, index))
     }
@@ -445,7 +449,11 @@ fn after_cut(mark: Mark, middle: usize) -> Mark {
 
 /// Where the first place stands that has a row and isn't below the one that is looked for, and its entry.
 #[inline(always)]
-fn first_row<'a>(shelves: &'a [Shelf], near: Marks, probe: &Probe<'_>) -> Option<(Mark, &'a Entry)>
+fn first_row<'a>(
+    shelves: &'a [Shelf],
+    near: CursorPair,
+    probe: &Probe<'_>,
+) -> Option<(Cursor, &'a Entry)>
     requires { AreSorted shelves.now }
     ensures found { IfSome result (λ first. IsFirstRow (joined shelves.now) probe.now first.1.now) }
     ensures none { IfNone result (NoRowFrom probe.now (joined shelves.now)) }
@@ -459,9 +467,9 @@ fn first_row<'a>(shelves: &'a [Shelf], near: Marks, probe: &Probe<'_>) -> Option
 /// The same by the shelf where the place belongs.
 fn first_row_searched<'a>(
     shelves: &'a [Shelf],
-    near: Marks,
+    near: CursorPair,
     probe: &Probe<'_>,
-) -> Option<(Mark, &'a Entry)>
+) -> Option<(Cursor, &'a Entry)>
     requires { AreSorted shelves.now }
     ensures found { IfSome result (λ first. IsFirstRow (joined shelves.now) probe.now first.1.now) }
     ensures none { IfNone result (NoRowFrom probe.now (joined shelves.now)) }
@@ -477,7 +485,7 @@ fn first_row_from<'a>(
     shelves: &'a [Shelf],
     start: usize,
     probe: &Probe<'_>,
-) -> Option<(Mark, &'a Entry)>
+) -> Option<(Cursor, &'a Entry)>
     requires sorted { AreSorted shelves.now }
     requires shelf { IsBlockFor shelves.now probe.now start }
     ensures found { IfSome result (λ first. IsFirstRow (joined shelves.now) probe.now first.1.now) }

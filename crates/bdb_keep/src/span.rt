@@ -97,7 +97,7 @@ impl Span {
         (cut.key(&self.bytes), cut.row(&self.bytes))
     }
 
-    /// Puts a row behind the others. Where memory is wanting, no clause says which rows there are.
+    /// Puts a row behind the others. Where memory runs out, no clause says which rows there are.
     pub fn push(&mut self, key: &[u8], row: &[u8]) -> Result<(), AllocError>
         ensures { OnOk result (self.new ≡ self.old ++ (key.now, row.now) ∷ []) }
     {

@@ -7,7 +7,7 @@ ghost use Rattle.bdb_keep.specs.Marked.{IsMarkedCount};
 ghost use Rattle.bdb_keep.specs.Spans.{AreRowsUnder, with_rows, without_rows};
 ghost use Rattle.bdb_keep.specs.Tables.{IsLeastFrom, NoneFrom};
 
-use crate::changes::{Change, insert_row, put_row, roll_back, settle, take_row};
+use crate::changes::{PlaceChange, forget, insert_row, put_row, roll_back, take_row};
 use crate::keeper::KeyEnd;
 use crate::many::{put_rows, take_rows};
 use crate::place::Place;
@@ -18,12 +18,12 @@ use std::alloc::{AllocError, Global};
 use std::marker::Model;
 
 /// Rows in memory that remember how they were when they were last settled. The room to undo a change is taken before
-/// the change, so neither to settle the changes nor to undo them takes memory. A keeper is made of one.
+/// the change, so neither to forget the changes nor to undo them takes memory. A keeper is made of one.
 #[derive(Drop)]
 pub struct Store {
     alloc: Global,
     rows: Rows,
-    changes: Vec<Change>,
+    changes: Vec<PlaceChange>,
 }
 
 impl Model for Store {
@@ -147,11 +147,11 @@ impl Store {
         take_rows(self.alloc, &mut self.rows, &mut self.changes, tab, span)
     }
 
-    /// Settles the changes: the rows are now those last settled. It takes no memory.
-    pub fn settle(&mut self)
+    /// Forgets the changes: the rows are now those last settled. It takes no memory.
+    pub fn forget(&mut self)
         ensures { self.new ≡ record { kept = self.old.kept; last = self.old.kept; changes = [] } }
     {
-        settle(&mut self.rows, &mut self.changes);
+        forget(&mut self.rows, &mut self.changes);
     }
 
     /// Undoes the changes: the rows are those last settled. It takes no memory.
@@ -159,27 +159,27 @@ impl Store {
         ensures { self.new ≡ record { kept = self.old.last; last = self.old.last; changes = [] } }
     {
         roll_back(&mut self.rows, &mut self.changes);
-        settle(&mut self.rows, &mut self.changes);
+        forget(&mut self.rows, &mut self.changes);
     }
 
-    /// Settles the changes, and puts a row as if it had stood there.
+    /// Forgets the changes, and puts a row as if it had stood there.
     pub fn preset(&mut self, tab: u8, key: &[u8], row: &[u8]) -> Result<(), AllocError>
         ensures ok { OnOk result (let t = map.insert self.old.kept (tab ∷ key.now) row.now in
             self.new ≡ record { kept = t; last = t; changes = [] }) }
         ensures err { OnErr result
             (self.new ≡ record { kept = self.old.kept; last = self.old.kept; changes = [] }) }
     {
-        settle(&mut self.rows, &mut self.changes);
+        forget(&mut self.rows, &mut self.changes);
         insert_row(&mut self.rows, &Probe::of(tab, key), row)?;
         Ok(())
     }
 
-    /// Settles the changes, and takes a row away as if it had not stood there. It takes no memory.
+    /// Forgets the changes, and takes a row away as if it had not stood there. It takes no memory.
     pub fn unset(&mut self, tab: u8, key: &[u8])
         ensures { let t = map.remove self.old.kept (tab ∷ key.now) in self.new
             ≡ record { kept = t; last = t; changes = [] } }
     {
-        settle(&mut self.rows, &mut self.changes);
+        forget(&mut self.rows, &mut self.changes);
         self.rows.remove(&Probe::of(tab, key));
     }
 

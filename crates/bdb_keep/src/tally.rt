@@ -14,7 +14,7 @@ use std::alloc::Global;
 pub const TABLE: u8 = 11;
 
 /// How many rows of one table are marked, by the number in the first four bytes of their keys, and by that in the last four. It is right
-/// unless it is stale, as it is once memory was wanting.
+/// unless it is stale, as it is once memory ran out.
 #[derive(Drop)]
 pub struct Tally {
     pub first: Vec<u32>,

@@ -18,7 +18,7 @@ use Rattle.bdb_shown.proofs.ReadLemmas.{AreStored, are_stored, rows_stored}
 use Rattle.bdb_tables.specs.Grammar.{InGrammar}
 use Rattle.bdb_val.specs.Reads.{world_prefix}
 use Rattle.bdb_val.specs.WorldReads.{AreInOrder, AreRowsAt, held_row}
-use Rattle.bdb_val.specs.declared.stored.Stored.{Stored}
+use Rattle.bdb_val.specs.declared.stored.StoredRow.{StoredRow}
 use Rattle.bdb_val.proofs.WorldLemmas.{read_is_world}
 use Rattle.bdb_worlds.specs.Bounds.{RisesWithin}
 
@@ -57,7 +57,7 @@ module _ (t : Tables) (path : List ℕ) (wid : ℕ) (own : Bool) (catalog : Cata
   shows_world b h =
       reply.shows ∙ ap (λ (held : List Held). world_reply catalog (record { held = held })) (told_as_shown own reply.ordered ∙ is_world b h)
 
-  length_held : (ss : List Stored) → length (map held_row ss) ≡ length ss
+  length_held : (ss : List StoredRow) → length (map held_row ss) ≡ length ss
   length_held [] = refl
   length_held (s ∷ ss) = ap suc (length_held ss)
 

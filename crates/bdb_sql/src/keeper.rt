@@ -14,8 +14,8 @@ ghost use Rattle.bdb_sql.specs.Tied.{MatchesFile, MayStore, StandsWhole, StoresR
 ghost use Rattle.sqlite.specs.State.{HasCleanDisk, Survives};
 ghost use Rattle.sqlite.specs.Held.{state};
 
+use crate::keeper_error::keeper_error;
 use crate::load::load;
-use crate::told::told;
 use crate::write::write_changes;
 use bdb_keep::{KeepError, Keeper, KeyEnd, Ledger, Span, Store};
 use sqlite::{Alter, Connection};
@@ -392,6 +392,6 @@ fn write_to<S: Alter>(
     };
     match write_changes(alloc, conn, store) {
         Ok(()) => Ok(()),
-        Err(error) => Err(told(error)),
+        Err(error) => Err(keeper_error(error)),
     }
 }

@@ -1,11 +1,10 @@
 -- The writes of all steps of a change together.
 use Rattle.std.proofs.Common.{◌≡◌, ◌∙◌, ℕ, ◌+◌, ◌*◌, ◌≤◌, true, false, ◌||◌, nat_eq, List, [], ◌∷◌, length, filter, refl, sym, arith}
-use Rattle.std.proofs.lemmas.Bool.{not-true}
+use Rattle.std.proofs.lemmas.Bool.{not-true, or_parts}
 use Rattle.std.proofs.lemmas.Nat.{mul-le}
 use Rattle.bdb_keep.specs.Seen.{Seen}
 use Rattle.bdb_keep.specs.Tables.{Tables}
 use Rattle.bdb_tables.specs.Differences.{AreDifferences}
-use Rattle.bdb_tables.proofs.SignLemmas.{or_false}
 use Rattle.bdb_val.specs.Others.{SameBut, is_in}
 use Rattle.bdb_worlds.specs.Bounds.{RisesWithin}
 use Rattle.bdb_update.specs.Bounds.{WritesWithin, StateWrites, RowWrites, is_of_states, part_at}
@@ -19,7 +18,7 @@ use Rattle.bdb_update.proofs.TallyLemmas.{rows_alone}
 -- a place of states is neither a tuple's nor a row's
 apart_from : (q : List ℕ) → is_of_states q ≡ true → (is_in is_of_tuples q ≡ false) × (is_in rows_alone q ≡ false)
 apart_from [] e = (refl, refl)
-apart_from (n ∷ k) e = or_false (is_of_tuples n) (nat_eq n 11) (not-true (is_of_tuples n || nat_eq n 11) e)
+apart_from (n ∷ k) e = or_parts (is_of_tuples n) (nat_eq n 11) (not-true (is_of_tuples n || nat_eq n 11) e)
 
 pub states_over_rows : (t u : Tables) → SameBut rows_alone t u → (q : List ℕ) → part_at is_of_states u q ≡ part_at is_of_states t q
 states_over_rows t u same = part_same is_of_states t u (λ q e. same q (apart_from q e).1)

@@ -19,11 +19,11 @@ ghost use Rattle.bdb_val.specs.Steps.{IsChanging, counted};
 ghost use Rattle.bdb_worlds.specs.Bounds.{RisesWithin};
 
 use crate::filling::{both, fill_worlds};
-use crate::keys::{row_key, table_error};
+use crate::keys::row_key;
 use bdb_base::{Sign, Stmt, Tuple, Value, key_of};
 use bdb_keep::Keeper;
 use bdb_key::put_mark;
-use bdb_tables::{Tab, TabError, TupleIx, TupleTab, ValTab, first_gap, next, put};
+use bdb_tables::{Tab, TabError, TupleIx, TupleTab, ValTab, first_gap, next, put, table_error};
 use bdb_val::{Settled, settle_group};
 use bdb_worlds::add_states;
 use std::alloc::Global;

@@ -20,11 +20,11 @@ ghost use Rattle.bdb_worlds.specs.Bounds.{RisesWithin};
 
 use crate::filling::both;
 use crate::joining::rel_of;
-use crate::keys::{row_key, table_error};
+use crate::keys::row_key;
 use crate::reading::is_told;
 use bdb_base::{Stmt, Tuple, Value, key_of};
 use bdb_keep::Keeper;
-use bdb_tables::{Tab, TabError, TupleIx, TupleTab, ValTab, drop_row};
+use bdb_tables::{Tab, TabError, TupleIx, TupleTab, ValTab, drop_row, table_error};
 use bdb_val::{Settled, clear_world, settle_group};
 use bdb_worlds::drop_states;
 use std::alloc::Global;

@@ -7,6 +7,6 @@ pub returns-in-Some : goal.returns-in-Some
 returns-in-Some c =
     let bs = c.args.shelves.now in
     let q = c.args.probe.now in
-    let i = c.args.mark.0 in
+    let i = c.args.cursor.0 in
     let belongs = subst (λ es. BelongsAmong es q false) c.shelf_at.ensures c.in-Some.ensures.belongs in
     first-beside bs q i c.in-Some.entry.now c.requires c.if-at-shelves.false belongs (subst (λ es. IsFirstRow es q c.in-Some.entry.now) c.shelf_at.ensures c.in-Some.ensures.found)

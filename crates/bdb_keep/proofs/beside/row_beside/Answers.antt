@@ -9,7 +9,7 @@ pub returns-in-Some : goal.returns-in-Some
 returns-in-Some c =
     let bs = c.args.shelves.now in
     let q = c.args.probe.now in
-    let i = c.args.mark.0 in
+    let i = c.args.cursor.0 in
     let belongs = subst (λ es. BelongsAmong es q false) c.shelf_at.ensures c.in-Some.ensures.belongs in
     let shelf = shelf-beside bs q i c.requires c.if-at-shelves.false belongs in
     c.in-Some.ensures.row ∙ ap (λ es. row_of (place_at es q)) c.shelf_at.ensures ∙ sym (ap row_of (shelf-place bs q i c.requires shelf))

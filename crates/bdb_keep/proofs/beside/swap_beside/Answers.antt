@@ -11,7 +11,7 @@ pub returns-in-Ok : goal.returns-in-Ok
 returns-in-Ok c =
     let bs = c.args.shelves.now.items in
     let q = c.args.probe.now in
-    let i = c.args.mark.0 in
+    let i = c.args.cursor.0 in
     let within : i < length bs = search rules in
     let old = c.index_mut.result.now in
     let read : old ≡ get_or bs i [] = block-read bs i old c.index_mut.ensures.value within in
@@ -29,7 +29,7 @@ returns-in-Ok c =
 pub returns-in-Err : goal.returns-in-Err
 returns-in-Err c =
     let bs = c.args.shelves.now.items in
-    let i = c.args.mark.0 in
+    let i = c.args.cursor.0 in
     let within : i < length bs = search rules in
     let old = c.index_mut.result.now in
     let read : old ≡ get_or bs i [] = block-read bs i old c.index_mut.ensures.value within in

@@ -11,7 +11,7 @@ pub returns-in-Some : goal.returns-in-Some
 returns-in-Some c =
     let bs = c.args.shelves.now.items in
     let q = c.args.probe.now in
-    let i = c.args.mark.0 in
+    let i = c.args.cursor.0 in
     let within : i < length bs = search rules in
     let old = c.index_mut.result.now in
     let read : old ≡ get_or bs i [] = block-read bs i old c.index_mut.ensures.value within in
@@ -28,7 +28,7 @@ returns-in-Some c =
 pub returns-in-None : goal.returns-in-None
 returns-in-None c =
     let bs = c.args.shelves.now.items in
-    let i = c.args.mark.0 in
+    let i = c.args.cursor.0 in
     let within : i < length bs = search rules in
     let old = c.index_mut.result.now in
     let read : old ≡ get_or bs i [] = block-read bs i old c.index_mut.ensures.value within in

@@ -10,7 +10,7 @@ pub returns-in-Ok : goal.returns-in-Ok
 returns-in-Ok c =
     let bs = c.args.shelves.now.items in
     let q = c.args.probe.now in
-    let i = c.args.mark.0 in
+    let i = c.args.cursor.0 in
     let old = c.index_mut.result.now in
     let read : old ≡ get_or bs i [] = block-read bs i old c.index_mut.ensures.value c.requires.shelf.block in
     let change : IsChangedAt (get_or bs i []) c.insert.new.self q (place_at old q) (Some (Some c.args.row.now)) =
@@ -25,7 +25,7 @@ returns-in-Ok c =
 pub returns-in-Err : goal.returns-in-Err
 returns-in-Err c =
     let bs = c.args.shelves.now.items in
-    let i = c.args.mark.0 in
+    let i = c.args.cursor.0 in
     let old = c.index_mut.result.now in
     let read : old ≡ get_or bs i [] = block-read bs i old c.index_mut.ensures.value c.requires.shelf.block in
     let same = set-itself bs i c.insert.new.self (c.in-Err.ensures.err ∙ read) c.requires.shelf.block in
