@@ -13,7 +13,7 @@ mod undoing;
 
 use bdb_base::List;
 use bdb_io::{MemSink, MemSource};
-use bdb_keep::MemKeeper;
+use bdb_memory::MemKeeper;
 use bdb_samples::words_of;
 use bdb_top::run;
 use std::alloc::Global;

@@ -3,12 +3,12 @@ ghost use Rattle.std.specs.Prelude.{◌≡◌, ◌∷◌, ◌≤◌, None, Some,
 ghost use Rattle.std.specs.Option.{option_map};
 ghost use Rattle.sqlite.specs.State.{HasCleanDisk};
 ghost use Rattle.sqlite.specs.Held.{state};
-ghost use Rattle.bdb_keep.specs.Held.{written};
+ghost use Rattle.bdb_memory.specs.Held.{written};
 ghost use Rattle.bdb_sql.specs.Tied.{HoldsTable, IsReady, IsTied, LeavesEither, WhereTied};
 ghost use Rattle.bdb_sql.specs.Written.{CommitsNothing, HasTable, Inside, SetsPlace, SetsPlaces, Turns};
 
 use crate::kept::{CREATE, LONGEST, PUT, REMOVE};
-use bdb_keep::Store;
+use bdb_memory::Store;
 use sqlite::{Alter, Connection, Error, ErrorCode, Transaction, params};
 use std::alloc::Global;
 use std::collections::BTreeSet;

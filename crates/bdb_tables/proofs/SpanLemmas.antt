@@ -17,7 +17,7 @@ use Rattle.bdb_base.proofs.AllLemmas.{all_weaker}
 use Rattle.bdb_keep.specs.Scans.{next_key}
 use Rattle.bdb_keep.specs.Tables.{Tables, bytes_cmp, IsLeastFrom, NoneFrom}
 use Rattle.bdb_keep.proofs.Scans.{between_keys}
-use Rattle.bdb_keep.proofs.UnderLemmas.{prefix_le, prefix_convex}
+use Rattle.bdb_keep.proofs.OrderLemmas.{prefix_le, prefix_convex}
 use Rattle.bdb_keep.proofs.RowsLemmas.{same_place}
 use Rattle.bdb_key.proofs.Readings.{all_push}
 use Rattle.bdb_key.specs.Reading.{Reads}

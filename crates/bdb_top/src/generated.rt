@@ -10,7 +10,7 @@ use crate::tally::{ReplyCounts, tally_script};
 use bdb_decode::OpenError;
 use bdb_gen::generate;
 use bdb_io::Sink;
-use bdb_keep::QuietKeeper;
+use bdb_memory::QuietKeeper;
 use bdb_session::{Session, StopError};
 use std::alloc::{AllocError, Global};
 

@@ -16,7 +16,8 @@ mod why;
 
 use bdb_base::List;
 use bdb_io::{MemSink, MemSource};
-use bdb_keep::{Keeper, MemKeeper};
+use bdb_keep::Keeper;
+use bdb_memory::MemKeeper;
 use bdb_samples::words_of;
 use bdb_top::run;
 use std::alloc::Global;

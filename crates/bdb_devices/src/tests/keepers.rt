@@ -7,7 +7,7 @@ use crate::tests::{
     quiet_sink, quiet_source, ran, told,
 };
 use bdb_io::MemSink;
-use bdb_keep::MemKeeper;
+use bdb_memory::MemKeeper;
 use std::alloc::Global;
 use std::test::Fail;
 

@@ -3,7 +3,7 @@ ghost use Rattle.std.specs.Prelude.{◌≡◌, false, IfOk};
 
 use bdb_base::Base;
 use bdb_decode::{OpenError, Stand, decode, stand_of};
-use bdb_keep::QuietKeeper;
+use bdb_memory::QuietKeeper;
 use bdb_samples::bytes_of;
 use std::alloc::Global;
 use std::test::Fail;

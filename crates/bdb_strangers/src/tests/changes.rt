@@ -1,7 +1,7 @@
 // Changes of rows that no command makes, told by lines of digits.
 ghost use Rattle.std.specs.Prelude.{◌≡◌, Bool, false};
 
-use bdb_keep::{MemKeeper, QuietKeeper};
+use bdb_memory::{MemKeeper, QuietKeeper};
 use bdb_samples::bytes_of;
 use std::alloc::{AllocError, Global};
 use std::test::Fail;

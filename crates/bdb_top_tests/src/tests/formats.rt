@@ -4,7 +4,7 @@ ghost use Rattle.std.specs.Prelude.{◌≡◌, false, IfOk};
 use crate::tests::checking::checked;
 use crate::tests::{Left, SETUP, ran, ran_quietly};
 use bdb_base::List;
-use bdb_keep::MemKeeper;
+use bdb_memory::MemKeeper;
 use bdb_samples::bytes_of;
 use std::alloc::Global;
 use std::test::Fail;
