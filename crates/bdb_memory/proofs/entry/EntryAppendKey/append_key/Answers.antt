@@ -1,6 +1,6 @@
 use Rattle.std.proofs.Common.{ℕ, List, ◌++◌, refl, sym, ap, ◌∙◌, append-nil}
 use Rattle.bdb_memory.proofs.HeadsLemmas.{key_appended}
-use Rattle.bdb_memory.proofs.entry.Entry.append_key.Goals as goal
+use Rattle.bdb_memory.proofs.entry.EntryAppendKey.append_key.Goals as goal
 
 pub returns-then-not-has_rest-clause-ok : goal.returns-then-not-has_rest-clause-ok
 returns-then-not-has_rest-clause-ok c =
