@@ -43,7 +43,7 @@ use Rattle.bdb_update.proofs.KeyLemmas.{lengths_fit}
 use Rattle.bdb_update.proofs.OneStored.{consistent}
 use Rattle.bdb_update.specs.Keys.{keys_of}
 use Rattle.bdb_val.specs.Reads.{IsSpan}
-use Rattle.bdb_worlds.specs.Bounds.{RisesWithin}
+use Rattle.bdb_worlds.specs.Bounds.{EndsWithin}
 use Rattle.bdb_catalog.specs.Bases.{HasUsers}
 use Rattle.bdb_catalog.specs.Showing.{FindsState, IsStateOf}
 use Rattle.bdb_catalog.specs.Taking.{AreTuplesRead, AreTuplesOf, key_prefix, is_asked, is_said, rows_asked, rows_said, statements_of, values_asked}
@@ -217,10 +217,10 @@ whole_key b valid u fits = by (slice_get b.catalog.rels u.rel) refl fits
 
 -- ---- what is read
 
-pub one_read_more : (d a b c : ℕ) → RisesWithin (d + 1) a b → RoseBy 1 b c → RisesWithin (d + 2) a c
+pub one_read_more : (d a b c : ℕ) → EndsWithin (d + 1) a b → RoseBy 1 b c → EndsWithin (d + 2) a c
 one_read_more d a b c within one below = let low : b < 2 ^ 64 - 1 = omega arith in let e = within low in omega arith
 
-reads_all : (d r u n m a b c : ℕ) → b ≤ c → RisesWithin (d + 2) a b → c ≤ b + (n + m + 1) → n ≤ r → m ≤ u → RisesWithin (d + r + u + 3) a c
+reads_all : (d r u n m a b c : ℕ) → b ≤ c → EndsWithin (d + 2) a b → c ≤ b + (n + m + 1) → n ≤ r → m ≤ u → EndsWithin (d + r + u + 3) a c
 reads_all d r u n m a b c le first more few fewer below = let e = first (omega arith) in omega arith
 
 module _ (t : Tables) (w : List ℕ) (wid : ℕ) (own : Bool) (state : FindsState t w (wid, own)) (s : Sign) (rel : ℕ) (conds : List Cond) (b : Contents) (has : HasUsers t w b) where
@@ -312,8 +312,8 @@ module _ (t : Tables) (w : List ℕ) (wid : ℕ) (own : Bool) (state : FindsStat
         (key_prefix (keys_of b rel) wid rel vs) span was_read.rows us under told in
         subst (λ n. n ≤ length (rows_said (key_lengths b.catalog.rels) s rel conds (world_of (key_lengths b.catalog.rels) b.stmts w))) (sym (as_many t (filter (is_said s) was_read.rows) us told)) within
 
-    pub reads_are_few : (a : ℕ) → old.reads ≤ new.reads → RisesWithin (length w + 2) a old.reads
-        → RisesWithin (length w + length (rows_asked (key_lengths b.catalog.rels) rel conds (world_of (key_lengths b.catalog.rels) b.stmts w))
+    pub reads_are_few : (a : ℕ) → old.reads ≤ new.reads → EndsWithin (length w + 2) a old.reads
+        → EndsWithin (length w + length (rows_asked (key_lengths b.catalog.rels) rel conds (world_of (key_lengths b.catalog.rels) b.stmts w))
         + length (rows_said (key_lengths b.catalog.rels) s rel conds (world_of (key_lengths b.catalog.rels) b.stmts w)) + 3) a new.reads
     reads_are_few a le first =
         reads_all (length w) (length (rows_asked (key_lengths b.catalog.rels) rel conds (world_of (key_lengths b.catalog.rels) b.stmts w)))

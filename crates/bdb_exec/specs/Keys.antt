@@ -53,14 +53,14 @@ value_behind slots item [] col = None
 value_behind slots item (step.Test c ∷ xs) col = first_there (value_of_test slots item col c) (value_behind slots item xs col)
 value_behind slots item (_ ∷ xs) col = None
 
--- ---- beginnings of keys
+-- ---- prefixes of keys
 
 -- the values that are asked for of at most so many columns from one on, up to the first of which none is asked for
 abbrev pub values_behind : List (Option Tuple) → ℕ → List Step → ℕ → ℕ → List Value
 values_behind slots item behind zero col = []
 values_behind slots item behind (suc most) col = led_by (value_behind slots item behind col) (values_behind slots item behind most (suc col))
 
--- the values that are asked for of the first columns of a key that has so many: as long a beginning of the key as there is
+-- the values that are asked for of the first columns of a key that has so many: as long a prefix of the key as there is
 abbrev pub key_asked : ℕ → List (Option Tuple) → ℕ → List Step → List Value
 key_asked n slots item behind = cond (nat_lt item (length slots)) (values_behind slots item behind n 0) []
 

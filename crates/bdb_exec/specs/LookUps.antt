@@ -1,4 +1,4 @@
--- How often an execution reads at most: of the beginning of a key that is asked for, only its rows; of what a test refuses,
+-- How often an execution reads at most: of the prefix of a key that is asked for, only its rows; of what a test refuses,
 -- nothing more.
 use Rattle.std.specs.Prelude.{ℕ, ◌+◌, ◌*◌, List, [], ◌∷◌, Option, Some, None, length, take}
 use Rattle.std.specs.List.{sum_by}

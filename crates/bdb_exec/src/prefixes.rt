@@ -18,7 +18,7 @@ use bdb_plan::Step;
 use bdb_tables::put_key_vals;
 use std::alloc::AllocError;
 
-// Most beginnings of keys have at most as many bytes.
+// Most prefixes of keys have at most as many bytes.
 const PREFIX_ROOM: usize = 64;
 
 /// How the keys of a world's rows of a relation begin.

@@ -20,7 +20,7 @@ use Rattle.bdb_session.proofs.StepLemmas.{delete_closes, leave_closes, update_cl
 use Rattle.bdb_session.proofs.TellLemmas.{always_ok}
 use Rattle.bdb_session.proofs.WriteLemmas.{insert_closes, closed_unwritten}
 use Rattle.bdb_trans.specs.Bounds.{product_of}
-use Rattle.bdb_worlds.specs.Bounds.{RisesWithin}
+use Rattle.bdb_worlds.specs.Bounds.{EndsWithin}
 
 -- ---- a transaction that was begun and closed
 
@@ -38,8 +38,8 @@ module _ (learns : Known) (r : Reply) (before now : Known) (old run mid new : Se
 
   read_closes : (most : State → ℕ) → ReadsWithin most before run mid (Ok r) → ReadsWithin most before old new result
   read_closes most h = λ s a.
-      let there = subst (λ n. RisesWithin (most s) run.reads n) (sym same_reads) (h s (begun s a)) in
-      always_ok result (subst (λ n. RisesWithin (most s) n new.reads) began.reads there)
+      let there = subst (λ n. EndsWithin (most s) run.reads n) (sym same_reads) (h s (begun s a)) in
+      always_ok result (subst (λ n. EndsWithin (most s) n new.reads) began.reads there)
 
   query_closes : (q : Query) → ReadsAsBounded q before run mid (Ok r) → ReadsAsBounded q before old new result
   query_closes q h = λ s rows a few.

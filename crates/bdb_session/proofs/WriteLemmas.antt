@@ -24,7 +24,7 @@ use Rattle.bdb_update.specs.Replacing.{WritesForOne}
 use Rattle.bdb_update.specs.declared.answer.Added.TheVariants.{New, Already}
 use Rattle.bdb_update.specs.declared.answer.UpdateError.{UpdateError}
 use Rattle.bdb_update.specs.declared.answer.UpdateError.TheVariants as change
-use Rattle.bdb_worlds.specs.Bounds.{RisesWithin}
+use Rattle.bdb_worlds.specs.Bounds.{EndsWithin}
 use Rattle.bdb_update.proofs.SpendLemmas.{none_within}
 use Rattle.bdb_session.specs.Bounds.{InsertsWithin, RefusedUnwritten, StandsUnwritten}
 use Rattle.bdb_session.specs.declared.reply.Reply.{Reply}
@@ -46,7 +46,7 @@ pub same_writes : (times more : ℕ) (old from to new : Seen) → from.kept ≡ 
     → WritesWithin times more from to → WritesWithin times more old new
 same_writes times more old from to new k w l v h = λ ps d.
     let there = subst (λ (t : Tables). AreDifferences (tables.get t) (tables.get to.kept) ps) (sym k) (subst (λ (t : Tables). AreDifferences (tables.get old.kept) (tables.get t) ps) l d) in
-    subst (λ n. RisesWithin (times * length ps + more) old.writes n) (sym v) (subst (λ n. RisesWithin (times * length ps + more) n to.writes) w (h ps there))
+    subst (λ n. EndsWithin (times * length ps + more) old.writes n) (sym v) (subst (λ n. EndsWithin (times * length ps + more) n to.writes) w (h ps there))
 
 -- ---- within a transaction
 

@@ -20,7 +20,7 @@ use Rattle.bdb_val.specs.Reads.{world_prefix}
 use Rattle.bdb_val.specs.WorldReads.{AreInOrder, AreRowsAt, held_row}
 use Rattle.bdb_val.specs.declared.stored.StoredRow.{StoredRow}
 use Rattle.bdb_val.proofs.WorldLemmas.{read_is_world}
-use Rattle.bdb_worlds.specs.Bounds.{RisesWithin}
+use Rattle.bdb_worlds.specs.Bounds.{EndsWithin}
 
 told_as_shown : (own : Bool) (held : List Held) → map (told own) held ≡ shown own held
 told_as_shown true held = by held
@@ -68,7 +68,7 @@ module _ (t : Tables) (path : List ℕ) (wid : ℕ) (own : Bool) (catalog : Cata
       ∙ sym (length_shown own reply.ordered) ∙ ap (λ (held : List Held). length held) (is_world b h)
 
   -- and so often was read
-  pub reads_world : (old mid new : ℕ) → mid ≤ new → RisesWithin (length path + 1) old mid → new ≤ mid + (2 * length rows + 1) → ReadsWorld t path old new
+  pub reads_world : (old mid new : ℕ) → mid ≤ new → EndsWithin (length path + 1) old mid → new ≤ mid + (2 * length rows + 1) → ReadsWorld t path old new
   reads_world old mid new le state more b h below =
       let many = as_many b h in
       let e = state (omega (arith, below, le)) in

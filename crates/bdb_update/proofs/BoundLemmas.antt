@@ -6,7 +6,7 @@ use Rattle.bdb_keep.specs.Seen.{Seen}
 use Rattle.bdb_keep.specs.Tables.{Tables}
 use Rattle.bdb_tables.specs.Differences.{AreDifferences}
 use Rattle.bdb_val.specs.Others.{SameBut, is_in}
-use Rattle.bdb_worlds.specs.Bounds.{RisesWithin}
+use Rattle.bdb_worlds.specs.Bounds.{EndsWithin}
 use Rattle.bdb_update.specs.Bounds.{WritesWithin, StateWrites, RowWrites, is_of_states, part_at}
 use Rattle.bdb_update.specs.Joining.{is_of_tuples}
 use Rattle.bdb_update.specs.Tallies.{HasRowCount, vals_at}
@@ -44,7 +44,7 @@ fits d states rows places l =
 
 -- ---- a statement is added: worlds come with so many rows, its tuple gets a number, and its row is put and its group settled
 
-module _ (d rows : ℕ) (old a b new : Seen) (first : StateWrites (d + 2) rows old a) (second : RisesWithin 2 a.writes b.writes) (third : RowWrites 2 b new)
+module _ (d rows : ℕ) (old a b new : Seen) (first : StateWrites (d + 2) rows old a) (second : EndsWithin 2 a.writes b.writes) (third : RowWrites 2 b new)
     (tuples : SameBut is_of_tuples a.kept b.kept) (alone : SameBut rows_alone b.kept new.kept) (later : a.writes ≤ b.writes) (last : b.writes ≤ new.writes) (n m z : ℕ)
     (n_rows : HasRowCount old.kept n) (m_rows : HasRowCount a.kept m) (z_rows : HasRowCount new.kept z) (came : m ≡ n + rows)
     (one : (p q : List ℕ) → IsLost (vals_at old.kept) (vals_at a.kept) (vals_at new.kept) p → IsLost (vals_at old.kept) (vals_at a.kept) (vals_at new.kept) q → p ≡ q) where
@@ -72,7 +72,7 @@ module _ (d rows : ℕ) (old a b new : Seen) (first : StateWrites (d + 2) rows o
 
 -- ---- a statement is taken away: its row goes and its group is settled, worlds go with so many rows, and a number goes
 
-module _ (d rows : ℕ) (old a b new : Seen) (first : RowWrites 2 old a) (second : StateWrites (d + 2) rows a b) (third : RisesWithin 2 b.writes new.writes)
+module _ (d rows : ℕ) (old a b new : Seen) (first : RowWrites 2 old a) (second : StateWrites (d + 2) rows a b) (third : EndsWithin 2 b.writes new.writes)
     (alone : SameBut rows_alone old.kept a.kept) (tuples : SameBut is_of_tuples b.kept new.kept) (later : a.writes ≤ b.writes) (last : b.writes ≤ new.writes) (n m z : ℕ)
     (n_rows : HasRowCount old.kept n) (m_rows : HasRowCount a.kept m) (z_rows : HasRowCount b.kept z) (went : m ≡ z + rows)
     (one : (p q : List ℕ) → IsLost (vals_at old.kept) (vals_at a.kept) (vals_at b.kept) p → IsLost (vals_at old.kept) (vals_at a.kept) (vals_at b.kept) q → p ≡ q) where

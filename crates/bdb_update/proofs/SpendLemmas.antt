@@ -25,7 +25,7 @@ use Rattle.bdb_tables.proofs.SameLemmas.{change_same}
 use Rattle.bdb_tables.proofs.WriteLemmas.{get_after_change}
 use Rattle.bdb_val.specs.Counts.{TellsDifferences}
 use Rattle.bdb_val.specs.Others.{SameBut}
-use Rattle.bdb_worlds.specs.Bounds.{RisesWithin}
+use Rattle.bdb_worlds.specs.Bounds.{EndsWithin}
 use Rattle.bdb_worlds.specs.Bounds as states
 use Rattle.bdb_worlds.specs.Growth.{SameOutside}
 use Rattle.bdb_update.specs.Keeping.{KeepsTuples}
@@ -179,7 +179,7 @@ states_then_rows d rows old mid new within outside alone rises later ps diff sma
 
 pub still_within : (times more : ℕ) (old mid new : Seen) → mid.kept ≡ old.kept → mid.writes ≡ old.writes → WritesWithin times more mid new → WritesWithin times more old new
 still_within times more old mid new kept writes h ps d =
-    subst (λ n. RisesWithin (times * length ps + more) n new.writes) writes (h ps (subst (λ (t : Tables). AreDifferences (tables.get t) (tables.get new.kept) ps) (sym kept) d))
+    subst (λ n. EndsWithin (times * length ps + more) n new.writes) writes (h ps (subst (λ (t : Tables). AreDifferences (tables.get t) (tables.get new.kept) ps) (sym kept) d))
 
 pub quiet_within : (times more : ℕ) (old mid new : Seen) → IsQuiet old mid → WritesWithin times more mid new → WritesWithin times more old new
 quiet_within times more old mid new q h = still_within times more old mid new q.kept q.writes h

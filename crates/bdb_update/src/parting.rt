@@ -16,7 +16,7 @@ ghost use Rattle.bdb_tables.specs.Stored.{SameBut};
 ghost use Rattle.bdb_val.specs.Others as others;
 ghost use Rattle.bdb_val.specs.Reads.{HaveTuples};
 ghost use Rattle.bdb_val.specs.Steps.{IsChanging};
-ghost use Rattle.bdb_worlds.specs.Bounds.{RisesWithin};
+ghost use Rattle.bdb_worlds.specs.Bounds.{EndsWithin};
 
 use crate::filling::both;
 use crate::joining::rel_of;
@@ -177,7 +177,7 @@ pub fn drop_number<K: Keeper>(
     ensures stood { OnOk result (KeepsTuples (K.seen keeper.new).kept (K.seen keeper.old).kept) }
     ensures tells { IfOk result (TellsNumber (K.seen keeper.old).kept stmt.now) }
     ensures writes { OnOk result
-        (RisesWithin 2 (K.seen keeper.old).writes (K.seen keeper.new).writes) }
+        (EndsWithin 2 (K.seen keeper.old).writes (K.seen keeper.new).writes) }
     ensures others { OnOk result
         (others.SameBut is_of_tuples (K.seen keeper.old).kept (K.seen keeper.new).kept) }
     ensures changing { IsChanging (K.seen keeper.old) (K.seen keeper.new) result TabError.Fault }

@@ -22,7 +22,7 @@ use Rattle.bdb_names.proofs.Ends.{whole_end, length_more, more_is_end}
 use Rattle.bdb_names.proofs.MoreLemmas.{links_more, edges_more}
 use Rattle.bdb_names.proofs.MoveLemmas.{edge_moves_parts, link_moves_parts}
 use Rattle.bdb_names.proofs.NameLemmas.{number_is, is_named_by, link_found, link_at_none, edge_found, edge_at_none}
-use Rattle.bdb_worlds.specs.Bounds.{RisesWithin, WritesWithin}
+use Rattle.bdb_worlds.specs.Bounds.{EndsWithin, WritesWithin}
 use Rattle.bdb_worlds.specs.Free.{FindsFree}
 use Rattle.bdb_worlds.specs.Growth.{IsAdded, MayGrow, SomeMayGrow, with_prefixes, state_writes}
 use Rattle.bdb_worlds.specs.Holding.{Worlds}
@@ -79,7 +79,7 @@ IsCome users ns ms (at_led a n j) = ⊥
 pub record IsMade (s : Worlds) (t : Tables) (ns : Names) (steps before now : ℕ) : Type 0 where
   pub moves : ℕ
   pub own : List Spot
-  pub count : RisesWithin (moves + (sum_of weight own + 3 * steps)) before now
+  pub count : EndsWithin (moves + (sum_of weight own + 3 * steps)) before now
   pub many : 3 * steps ≤ sum_of weight own
   pub apart : Apart own
   pub come : AllByRecursion (IsCome s.users s.names ns) own
@@ -136,7 +136,7 @@ module _ (s : Worlds) (t : Tables) (h : HoldsStates s.users s.names t) where
 
   -- what is written in all
   pub made_all : (ns : Names) (u : Tables) (steps d before now : ℕ) → HoldsStates s.users ns u → steps ≤ d → IsMade s t ns steps before now
-      → (ps : List (List ℕ)) → AreDifferences (tables.get t) (tables.get u) ps → RisesWithin ((d + 2) * length ps) before now
+      → (ps : List (List ℕ)) → AreDifferences (tables.get t) (tables.get u) ps → EndsWithin ((d + 2) * length ps) before now
   made_all ns u steps d before now hu le made ps diff small =
       let a = made.later ns u (λ w n e. e) hu ps diff in
       let b = costs_within t u _ _ _ _ _ _ h.tables hu.tables weight made.own made.apart

@@ -22,7 +22,7 @@ use Rattle.bdb_names.proofs.Ends.{whole_end, length_more, one_more}
 use Rattle.bdb_names.proofs.NameLemmas.{same_number, number_is, link_found, link_at_none, edge_found, edge_at_none}
 use Rattle.bdb_keep.specs.Seen.{Seen}
 use Rattle.bdb_names.proofs.TurnedLemmas.{same_edge_is}
-use Rattle.bdb_worlds.specs.Bounds.{RisesWithin, WritesWithin}
+use Rattle.bdb_worlds.specs.Bounds.{EndsWithin, WritesWithin}
 use Rattle.bdb_worlds.specs.Dropping.{pairs_of, kids_of, edges_of, IsDropped}
 use Rattle.bdb_worlds.specs.Holding.{Worlds, HoldSome}
 use Rattle.bdb_worlds.specs.Shrinking.{without_prefixes}
@@ -230,7 +230,7 @@ pub record MayBeLeft (ns ms : Names) (path : List ℕ) (left : ℕ) : Type 0 whe
 pub record IsSpent (s : Worlds) (t : Tables) (ns : Names) (path : List ℕ) (left steps before now : ℕ) : Type 0 where
   pub moves : ℕ
   pub own : List Spot
-  pub count : RisesWithin (moves + (sum_of weight own + 3 * steps)) before now
+  pub count : EndsWithin (moves + (sum_of weight own + 3 * steps)) before now
   pub many : 3 * steps ≤ sum_of weight own
   pub apart : Apart own
   pub gone : AllByRecursion (IsGone s.users s.names ns) own
@@ -267,7 +267,7 @@ module _ (s : Worlds) (t : Tables) (h : HoldsStates s.users s.names t) where
 
   -- what is written in all
   pub spent_all : (ns : Names) (u : Tables) (path : List ℕ) (left steps d before now : ℕ) → HoldsStates s.users ns u → steps ≤ d → IsSpent s t ns path left steps before now
-      → (ps : List (List ℕ)) → AreDifferences (tables.get t) (tables.get u) ps → RisesWithin ((d + 2) * length ps) before now
+      → (ps : List (List ℕ)) → AreDifferences (tables.get t) (tables.get u) ps → EndsWithin ((d + 2) * length ps) before now
   spent_all ns u path left steps d before now hu le spent ps diff small =
       let a = spent.later ns u (record { part = λ w n e. e; stays = λ w n e _. e }) hu ps diff in
       let b = costs_within t u _ _ _ _ _ _ h.tables hu.tables weight spent.own spent.apart
@@ -547,11 +547,11 @@ spending_ends old new path numbers gone left some shrinking spending ps d =
 -- ---- the same rows and counts
 
 pub within_after : (times : ℕ) (old mid new : Seen) → new.kept ≡ mid.kept → new.writes ≡ mid.writes → WritesWithin times old mid → WritesWithin times old new
-within_after times old mid new e f h ps d = subst (λ w. RisesWithin (times * length ps) old.writes w) (sym f) (h ps (subst (λ x. AreDifferences (tables.get old.kept) (tables.get x) ps) e d))
+within_after times old mid new e f h ps d = subst (λ w. EndsWithin (times * length ps) old.writes w) (sym f) (h ps (subst (λ x. AreDifferences (tables.get old.kept) (tables.get x) ps) e d))
 
 pub within_before : (times : ℕ) (old mid new : Seen) → mid.kept ≡ old.kept → mid.writes ≡ old.writes → WritesWithin times mid new → WritesWithin times old new
 within_before times old mid new e f h ps d =
-    subst (λ w. RisesWithin (times * length ps) w new.writes) f (h ps (subst (λ x. AreDifferences (tables.get x) (tables.get new.kept) ps) (sym e) d))
+    subst (λ w. EndsWithin (times * length ps) w new.writes) f (h ps (subst (λ x. AreDifferences (tables.get x) (tables.get new.kept) ps) (sym e) d))
 
 pub within_same : (times : ℕ) (old new : Seen) → new.writes ≡ old.writes → WritesWithin times old new
 within_same times old new f ps d small = omega (arith, f)

@@ -22,7 +22,7 @@ use Rattle.bdb_tables.specs.States.{HoldsStates, TablesAre}
 use Rattle.bdb_names.specs.Turned.{edge_set, same_edge, with_edge}
 use Rattle.bdb_names.proofs.NameLemmas.{path_is_named, deep_number, edge_at, edge_at_none, edge_is}
 use Rattle.bdb_names.proofs.TurnedLemmas.{edge_set_is, tables_same, same_edge_is}
-use Rattle.bdb_worlds.specs.Bounds.{RisesWithin}
+use Rattle.bdb_worlds.specs.Bounds.{EndsWithin}
 use Rattle.bdb_worlds.specs.Holding.{Worlds}
 use Rattle.bdb_worlds.specs.UserEdges.{IsNextNumber, HasNextNumber, without_one_user, MayLeave, DropsUser, WritesDropped, ReadsWorlds, DropsEdge, edge_dropped, edge_writes}
 use Rattle.bdb_worlds.proofs.OutsideLemmas.{SameButEdges, edges_itself, edge_alone}
@@ -266,27 +266,27 @@ EdgesDropped old new uid low = (s : Worlds) → HoldsStates s.users s.names old.
 
 -- no more than two reads were made for each world with a number below `low`
 abbrev pub WorldsRead : Seen → Seen → ℕ → Type 0
-WorldsRead old new low = (s : Worlds) → HoldsStates s.users s.names old.kept → RisesWithin (2 * below low s.names.used) old.reads new.reads
+WorldsRead old new low = (s : Worlds) → HoldsStates s.users s.names old.kept → EndsWithin (2 * below low s.names.used) old.reads new.reads
 
 pub dropped_begin : (old : Seen) (uid : ℕ) → EdgesDropped old old uid 0
 dropped_begin old uid s h leaves = twice_none (below 0 s.names.used) old.writes (none_below s.names.used)
 
-none_read : (n a : ℕ) → RisesWithin n a a
+none_read : (n a : ℕ) → EndsWithin n a a
 none_read n a less = omega arith
 
 pub read_begin : (old : Seen) → WorldsRead old old 0
 read_begin old s h = none_read (2 * below 0 s.names.used) old.reads
 
-pub within_one : (a b : ℕ) → RoseBy 1 a b → RisesWithin 1 a b
+pub within_one : (a b : ℕ) → RoseBy 1 a b → EndsWithin 1 a b
 within_one a b rose less = omega arith
 
 pub rises_one : (a b : ℕ) → RoseBy 1 a b → Rises 1 a b
 rises_one a b rose less = omega arith
 
-within_more : (n m a b c d : ℕ) → b ≤ c → c ≤ d → m ≡ n + 1 → RisesWithin (2 * n) a b → RisesWithin 1 b c → Rises 1 c d → RisesWithin (2 * m) a d
+within_more : (n m a b c d : ℕ) → b ≤ c → c ≤ d → m ≡ n + 1 → EndsWithin (2 * n) a b → EndsWithin 1 b c → Rises 1 c d → EndsWithin (2 * m) a d
 within_more n m a b c d bc cd e before one more less = let x = more less in let y = one (omega arith) in let z = before (omega arith) in omega arith
 
-within_all : (n m a b c : ℕ) → b ≤ c → n ≡ m → RisesWithin (2 * n) a b → RisesWithin 1 b c → RisesWithin (2 * m + 1) a c
+within_all : (n m a b c : ℕ) → b ≤ c → n ≡ m → EndsWithin (2 * n) a b → EndsWithin 1 b c → EndsWithin (2 * m + 1) a c
 within_all n m a b c bc e before one less = let y = one less in let z = before (omega arith) in omega arith
 
 module _ (old here : Seen) (uid low : ℕ) (user_fits : IsNum uid) (so_far : UserDroppedTo old.kept here.kept uid low) where
@@ -297,7 +297,7 @@ module _ (old here : Seen) (uid low : ℕ) (user_fits : IsNum uid) (so_far : Use
         (below_more here.kept s.names h.names (so_far s h).depth low wid high is next) (before s h leaves)
         (subst (λ n. Rises 2 n now.writes) writes (two_written old.kept here.kept uid low user_fits so_far wid high is next mid now kept d s h leaves))
 
-    pub read_more : here.reads ≤ mid.reads → mid.reads ≤ now.reads → RisesWithin 1 here.reads mid.reads → Rises 1 mid.reads now.reads → WorldsRead old here low → WorldsRead old now high
+    pub read_more : here.reads ≤ mid.reads → mid.reads ≤ now.reads → EndsWithin 1 here.reads mid.reads → Rises 1 mid.reads now.reads → WorldsRead old here low → WorldsRead old now high
     read_more first second one more before s h =
         within_more (below low s.names.used) (below high s.names.used) old.reads here.reads mid.reads now.reads first second
         (below_more here.kept s.names h.names (so_far s h).depth low wid high is next) (before s h) one more
@@ -307,6 +307,6 @@ module _ (old here : Seen) (uid low : ℕ) (user_fits : IsNum uid) (so_far : Use
       subst (λ n. Rises (2 * length s.names.used) old.writes n) (sym writes)
       (twice_all (below low s.names.used) (length s.names.used) old.writes here.writes (below_ends here.kept s.names h.names (so_far s h).depth low none) (before s h leaves))
 
-  pub read_end : (now : Seen) → here.reads ≤ now.reads → RisesWithin 1 here.reads now.reads → HasNextNumber here.kept low None → WorldsRead old here low → ReadsWorlds old now
+  pub read_end : (now : Seen) → here.reads ≤ now.reads → EndsWithin 1 here.reads now.reads → HasNextNumber here.kept low None → WorldsRead old here low → ReadsWorlds old now
   read_end now le one none before s h =
       within_all (below low s.names.used) (length s.names.used) old.reads here.reads now.reads le (below_ends here.kept s.names h.names (so_far s h).depth low none) (before s h) one

@@ -8,7 +8,7 @@ use Rattle.bdb_tables.specs.Lengths.{IsKeyLength}
 use Rattle.bdb_base.specs.Bases.{is_written}
 use Rattle.bdb_tables.specs.Prefixes.{HasPutValues}
 use Rattle.bdb_val.specs.Reads.{HaveTuples}
-use Rattle.bdb_worlds.specs.Bounds.{RisesWithin}
+use Rattle.bdb_worlds.specs.Bounds.{EndsWithin}
 use Rattle.bdb_worlds.specs.Holding.{HoldSome}
 use Rattle.bdb_catalog.specs.Showing.{FindsState}
 use Rattle.bdb_catalog.specs.Taking.{AreTuplesRead, key_prefix, statements_of, values_asked}
@@ -111,7 +111,7 @@ returns-in-Ok-statements_of-clause-reads g c =
     let asked : AreTuplesRead mid new (key_prefix n found.0 rel (values_asked conds n)) s us =
     subst (λ (cs : List Cond). AreTuplesRead mid new (key_prefix n found.0 rel (values_asked cs n)) s us) c.as_slice-conds.ensures read in
     let start = g.K.Keeper.seen c.state_of.new.keeper in
-    let found_so : RisesWithin (length path + 1) old.reads start.reads = subst (λ p. RisesWithin (length p + 1) old.reads start.reads) c.as_slice.ensures.users c.in-Ok.ensures.reads in
+    let found_so : EndsWithin (length path + 1) old.reads start.reads = subst (λ p. EndsWithin (length p + 1) old.reads start.reads) c.as_slice.ensures.users c.in-Ok.ensures.reads in
     let first = one_read_more (length path) old.reads start.reads mid.reads found_so c.in-Ok-stored_key_length.ensures.reads in
     λ b has. reads_are_few kept path found.0 found.1 state s rel conds b has c.if-not-own.false c.ranges.rel.fits n long mid new same us plain asked
     old.reads c.in-Ok-tuples_under.ensures.read.counts.reads first
