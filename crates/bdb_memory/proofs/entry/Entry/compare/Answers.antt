@@ -9,11 +9,11 @@ use Rattle.bdb_memory.proofs.entry.Entry.compare.Goals as goal
 pub returns-in-Equal : goal.returns-in-Equal
 returns-in-Equal c =
     let r = rest_in c.self.inside.tail in
-    entries_compared c.head_with-head.result _ c.parts.result.0 r c.parts.result.1.now _ c.args.self.now c.args.probe.now _ c.head_with-head.ensures c.self.view_is c.self.invariant.0 c.parts.ensures.place c.parts.ensures.head
+    entries_compared c.head_with-head.result _ c.parts.result.0 r c.parts.result.1.now _ c.args.self.now c.args.probe.now _ c.head_with-head.ensures c.self.view_is c.self.invariant c.parts.ensures.place c.parts.ensures.head
     (c.compare_rest.ensures ∙ ap (λ x. ordering_then x (bytes_cmp r c.parts.result.1.now)) (sym (sym c.compare.ensures ∙ c.in-Equal.is)))
 
 pub returns-in_default : goal.returns-in_default
 returns-in_default c =
     let r = rest_in c.self.inside.tail in
-    entries_compared c.head_with-head.result _ c.parts.result.0 r c.parts.result.1.now _ c.args.self.now c.args.probe.now _ c.head_with-head.ensures c.self.view_is c.self.invariant.0 c.parts.ensures.place c.parts.ensures.head
+    entries_compared c.head_with-head.result _ c.parts.result.0 r c.parts.result.1.now _ c.args.self.now c.args.probe.now _ c.head_with-head.ensures c.self.view_is c.self.invariant c.parts.ensures.place c.parts.ensures.head
     (decided (heads_cmp c.head_with-head.result c.parts.result.0) c.compare.result _ (sym c.compare.ensures) c.in_default.not-Equal)
