@@ -39,7 +39,7 @@ pub enum Tail {
         tab: u8,
         count: u8,
         byte: u8,
-        row: [u8; 4],
+        bytes: [u8; 4],
         third: u64,
     },
     /// Any other row, with the third number beside it.
@@ -47,10 +47,14 @@ pub enum Tail {
         tab: u8,
         count: u8,
         byte: u8,
-        row: Box<Long>,
+        long: Box<Long>,
     },
     /// More bytes of the key.
-    Far { tab: u8, count: u8, more: Box<More> },
+    Far {
+        tab: u8,
+        count: u8,
+        more: Box<More>,
+    },
 }
 
 /// The third and the fourth number of a key, its bytes behind these, and the row, if there is one.
@@ -95,7 +99,7 @@ impl Tail {
                 tab: head.tab,
                 count: head.count,
                 byte,
-                row: [*a, *b, *c, *d],
+                bytes: [*a, *b, *c, *d],
                 third: head.third,
             }),
             _ => {
@@ -150,20 +154,20 @@ impl Tail {
                 byte,
                 third,
             },
-            Bytes::Four(row) => Tail::Four {
+            Bytes::Four(bytes) => Tail::Four {
                 tab,
                 count,
                 byte,
-                row,
+                bytes,
                 third,
             },
-            Bytes::Long(mut row) => {
-                row.third = third;
+            Bytes::Long(mut long) => {
+                long.third = third;
                 Tail::Long {
                     tab,
                     count,
                     byte,
-                    row,
+                    long,
                 }
             }
         }
@@ -186,6 +190,17 @@ impl Tail {
                 byte,
                 third,
             },
+        }
+    }
+
+    /// What stands in the place of a tail while its row changes.
+    #[inline(always)]
+    fn nothing() -> Self {
+        Tail::Bare {
+            tab: 0,
+            count: 0,
+            byte: 0,
+            third: 0,
         }
     }
 
@@ -226,7 +241,7 @@ impl Tail {
             Tail::Bare { third, .. } => *third,
             Tail::Empty { third, .. } => *third,
             Tail::Four { third, .. } => *third,
-            Tail::Long { row, .. } => row.third,
+            Tail::Long { long, .. } => long.third,
             Tail::Far { more, .. } => more.third,
         }
     }
@@ -344,8 +359,8 @@ impl Tail {
         match self {
             Tail::Bare { .. } => None,
             Tail::Empty { .. } => Some(&[]),
-            Tail::Four { row, .. } => Some(row.as_slice()),
-            Tail::Long { row, .. } => Some(row.bytes.as_slice()),
+            Tail::Four { bytes, .. } => Some(bytes.as_slice()),
+            Tail::Long { long, .. } => Some(long.bytes.as_slice()),
             Tail::Far { more, .. } => match &more.row {
                 Some(row) => Some(row.as_slice()),
                 None => None,
@@ -364,25 +379,25 @@ pub fn swap_row(tail: &mut Tail, row: Option<Row>) -> Option<Row>
     ensures rest { rest_in tail.new ≡ rest_in tail.old }
     ensures row { row_in tail.new ≡ row }
 {
-    let nothing = Tail::with_any(0, 0, 0, 0, None);
-    match replace(tail, nothing) {
-        Tail::Bare { tab, count, byte, third } => {
+    let (tab, count, third) = (tail.tab(), tail.count(), tail.third());
+    match replace(tail, Tail::nothing()) {
+        Tail::Bare { byte, .. } => {
             *tail = Tail::with_any(tab, count, byte, third, row);
             None
         }
-        Tail::Empty { tab, count, byte, third } => {
+        Tail::Empty { byte, .. } => {
             *tail = Tail::with_any(tab, count, byte, third, row);
             Some(Row::from_bytes(Bytes::Empty))
         }
-        Tail::Four { tab, count, byte, row: before, third } => {
+        Tail::Four { byte, bytes, .. } => {
             *tail = Tail::with_any(tab, count, byte, third, row);
-            Some(Row::from_bytes(Bytes::Four(before)))
+            Some(Row::from_bytes(Bytes::Four(bytes)))
         }
-        Tail::Long { tab, count, byte, row: before } => {
-            *tail = Tail::with_any(tab, count, byte, before.third, row);
-            Some(Row::from_bytes(Bytes::Long(before)))
+        Tail::Long { byte, long, .. } => {
+            *tail = Tail::with_any(tab, count, byte, third, row);
+            Some(Row::from_bytes(Bytes::Long(long)))
         }
-        Tail::Far { tab, count, mut more } => {
+        Tail::Far { mut more, .. } => {
             let before = replace(&mut more.row, row);
             *tail = Tail::Far { tab, count, more };
             before
