@@ -192,7 +192,7 @@ pub entries_compared : (h b : Head) (r s : List ℕ) (w : Option (List ℕ)) (e 
     → o ≡ ordering_then (heads_cmp h b) (bytes_cmp r s) → o ≡ bytes_cmp e.0 q
 entries_compared h b r s w e q o v i f k d = compared e.0 q h b r s o (ap (λ (p : List ℕ × Option (List ℕ)). p.0) v) f i k d
 
--- a tail with the numbers of a head is behind this head
+-- the head made of the first two numbers of a head and of a tail that has all else of it is that head
 pub heads_alike : (t : Tail) (h : Head) → table_in t ≡ h.tab → count_in t ≡ h.count → third_in t ≡ h.third → fourth_in t ≡ h.fourth → head_in h.first h.second t ≡ h
 heads_alike t h tab count third fourth =
     ap (λ n. with_numbers n (count_in t) (third_in t) (fourth_in t)) tab

@@ -1,5 +1,5 @@
 // A place with its row, in few bytes.
-ghost use Rattle.std.specs.Prelude.{◌≡◌, ◌∷◌, ◌++◌, Some, IfOk, OnOk, IsTrue, is_some, length, take, drop};
+ghost use Rattle.std.specs.Prelude.{◌≡◌, ◌∷◌, Some, IfOk, IsTrue, is_some, drop};
 ghost use Rattle.std.specs.Option.{option_copied};
 ghost use Rattle.std.specs.Ordering.{is_le, is_lt, nat_cmp, ordering_then};
 ghost use Rattle.bdb_base.specs.Segments.{is_prefix};
@@ -208,18 +208,18 @@ fn compare_numbers(first: u64, second: u64, tail: &Tail, other: &Head) -> Orderi
     if third != other.third {
         return third.cmp(&other.third);
     }
-    compare_last(tail, other)
+    compare_last(tail, other.fourth, other.count)
 }
 
 /// How they compare by the fourth number, and then by how many bytes of the key are numbers.
 #[inline(never)]
-fn compare_last(tail: &Tail, other: &Head) -> Ordering
-    ensures { result ≡ ordering_then (nat_cmp (fourth_in tail.now) other.now.fourth)
-        (nat_cmp (count_in tail.now) other.now.count) }
+fn compare_last(tail: &Tail, fourth: u64, count: u8) -> Ordering
+    ensures { result ≡ ordering_then (nat_cmp (fourth_in tail.now) fourth)
+        (nat_cmp (count_in tail.now) count) }
 {
-    let fourth = tail.fourth();
-    if fourth != other.fourth {
-        return fourth.cmp(&other.fourth);
+    let own = tail.fourth();
+    if own != fourth {
+        return own.cmp(&fourth);
     }
-    tail.count().cmp(&other.count)
+    tail.count().cmp(&count)
 }
