@@ -10,7 +10,9 @@ use Rattle.std.proofs.lemmas.Bool.Decides.{nat_tests}
 use mathlib.Core.Bool.{true≢false}
 use Rattle.bdb_keep.specs.Tables.{bytes_cmp}
 use Rattle.bdb_memory.specs.Heads.{padded, bytes_of, key_of, IsHeadOf, IsHeadOfPlace, heads_cmp}
+use Rattle.bdb_memory.specs.Tails.{table_in, count_in, third_in, fourth_in, head_in}
 use Rattle.bdb_memory.specs.declared.head.Head.{Head}
+use Rattle.bdb_memory.specs.declared.tail.Tail.{Tail}
 use Rattle.bdb_base.proofs.Numbers.{less, greater, equal, then_assoc, numbers, then_equal}
 
 stepped : (m n : ℕ) → nat_cmp (suc m) (suc n) ≡ nat_cmp m n
@@ -185,11 +187,29 @@ head_tells (tab ∷ key) q a b s o e k d h n =
     ∙ ap (λ t. bytes_cmp (t ∷ key) (b.tab ∷ key_of b s)) h.0
     ∙ ap (bytes_cmp (tab ∷ key)) e
 
--- the same of an entry, whose head is put together from its numbers
-pub entries_compared : (g h b : Head) (r s : List ℕ) (w : Option (List ℕ)) (e : List ℕ × Option (List ℕ)) (q : List ℕ) (o : Ordering) → g ≡ h → (h.tab ∷ key_of h r, w) ≡ e → IsHeadOf (key_of h r) h r → b.tab ∷ key_of b s ≡ q → IsHeadOf (key_of b s) b s
-    → o ≡ ordering_then (heads_cmp g b) (bytes_cmp r s) → o ≡ bytes_cmp e.0 q
-entries_compared g h b r s w e q o same v i f k d =
-    compared e.0 q h b r s o (ap (λ (p : List ℕ × Option (List ℕ)). p.0) v) f i k (d ∙ ap (λ x. ordering_then (heads_cmp x b) (bytes_cmp r s)) same)
+-- the same of an entry
+pub entries_compared : (h b : Head) (r s : List ℕ) (w : Option (List ℕ)) (e : List ℕ × Option (List ℕ)) (q : List ℕ) (o : Ordering) → (h.tab ∷ key_of h r, w) ≡ e → IsHeadOf (key_of h r) h r → b.tab ∷ key_of b s ≡ q → IsHeadOf (key_of b s) b s
+    → o ≡ ordering_then (heads_cmp h b) (bytes_cmp r s) → o ≡ bytes_cmp e.0 q
+entries_compared h b r s w e q o v i f k d = compared e.0 q h b r s o (ap (λ (p : List ℕ × Option (List ℕ)). p.0) v) f i k d
+
+-- the head made of the first two numbers of a head and of a tail that has all else of it is that head
+pub heads_alike : (t : Tail) (h : Head) → table_in t ≡ h.tab → count_in t ≡ h.count → third_in t ≡ h.third → fourth_in t ≡ h.fourth → head_in h.first h.second t ≡ h
+heads_alike t h tab count third fourth =
+    ap (λ n. with_numbers n (count_in t) (third_in t) (fourth_in t)) tab
+    ∙ ap (λ n. with_numbers h.tab n (third_in t) (fourth_in t)) count
+    ∙ ap (λ n. with_numbers h.tab h.count n (fourth_in t)) third
+    ∙ ap (λ n. with_numbers h.tab h.count h.third n) fourth
+  where
+    with_numbers : ℕ → ℕ → ℕ → ℕ → Head
+    with_numbers a b c d = record { tab = a; count = b; first = h.first; second = h.second; third = c; fourth = d }
+
+-- an entry of the parts of a place, with a row
+pub entry_made : (g h : Head) (r s p : List ℕ) (v w : Option (List ℕ)) → g ≡ h → s ≡ r → h.tab ∷ key_of h r ≡ p → v ≡ w → ◌≡◌ {A = List ℕ × Option (List ℕ)} (g.tab ∷ key_of g s, v) (p, w)
+entry_made g h r s p v w d k e f =
+    ap (pair v) (ap (λ x. x.tab ∷ key_of x s) d ∙ ap (λ x. h.tab ∷ key_of h x) k ∙ e) ∙ ap (λ o. pair o p) f
+  where
+    pair : Option (List ℕ) → List ℕ → List ℕ × Option (List ℕ)
+    pair o x = (x, o)
 
 -- the parts of an entry's place
 pub parts_of_entry : (g h : Head) (r s : List ℕ) → g ≡ h → s ≡ r → IsHeadOf (key_of h r) h r → IsHeadOf (key_of g s) g s

@@ -121,7 +121,7 @@ impl Block {
         self.entries.as_slice().partition_point(
             |entry: &Entry| -> bool
                 ensures { result ≡ is_lt (bytes_cmp entry.now.0 probe.entry.now) }
-            { is_below(entry, probe) },
+            { entry.is_below(probe) },
         )
     }
 
@@ -199,17 +199,5 @@ fn head_of_first(entries: &[Entry], other: Head) -> Head
     match entries.first() {
         Some(entry) => entry.head(),
         None => other,
-    }
-}
-
-/// Whether a place is below one that is looked for. Mostly its head tells.
-#[inline(always)]
-fn is_below(entry: &Entry, probe: &Probe<'_>) -> bool
-    ensures { result ≡ is_lt (bytes_cmp entry.now.0 probe.now) }
-{
-    match probe.compare_head(&entry.head()) {
-        Ordering::Less => true,
-        Ordering::Equal => entry.compare(probe).is_lt(),
-        Ordering::Greater => false,
     }
 }

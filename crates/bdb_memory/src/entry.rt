@@ -1,11 +1,11 @@
 // A place with its row, in few bytes.
-ghost use Rattle.std.specs.Prelude.{◌≡◌, ◌∷◌, ◌++◌, Some, IfOk, OnOk, IsTrue, is_some, length, take, drop};
+ghost use Rattle.std.specs.Prelude.{◌≡◌, ◌∷◌, Some, IfOk, IsTrue, is_some, drop};
 ghost use Rattle.std.specs.Option.{option_copied};
-ghost use Rattle.std.specs.Ordering.{is_le};
+ghost use Rattle.std.specs.Ordering.{is_le, is_lt, nat_cmp, ordering_then};
 ghost use Rattle.bdb_base.specs.Segments.{is_prefix};
 ghost use Rattle.bdb_keep.specs.Tables.{bytes_cmp};
-ghost use Rattle.bdb_memory.specs.Heads.{IsHeadOfPlace};
-ghost use Rattle.bdb_memory.specs.Tails.{head_in};
+ghost use Rattle.bdb_memory.specs.Heads.{IsHeadOfPlace, heads_cmp, numbers_cmp};
+ghost use Rattle.bdb_memory.specs.Tails.{count_in, fourth_in, head_in};
 
 use crate::head::Head;
 use crate::opening::Opening;
@@ -17,33 +17,29 @@ use std::alloc::{AllocError, Global};
 use std::cmp::Ordering;
 use std::marker::Model;
 
-/// A place with its row, or with none where the row was removed. Many lie side by side, and are compared and moved: so the first 32
-/// bytes of the key are four numbers, as in a head, and all else lies behind them in sixteen bytes.
+/// A place with its row, or with none where the row was removed. Many lie side by side, and are compared and moved: so the first 16
+/// bytes of the key are two numbers, as in a head, and all else lies behind them in sixteen bytes.
 #[derive(Drop)]
 pub struct Entry {
     first: u64,
     second: u64,
-    third: u64,
-    fourth: u64,
     tail: Tail,
 }
 
 impl Model for Entry {
     ghost use Rattle.std.specs.Prelude.{ℕ, List, Option, ◌∷◌};
     ghost use Rattle.bdb_memory.specs.Heads.{IsHeadOf, key_of};
-    ghost use Rattle.bdb_memory.specs.Tails.{table_in, rest_in, row_in, HasRoom, head_in};
+    ghost use Rattle.bdb_memory.specs.Tails.{table_in, rest_in, row_in, head_in};
 
     ghost Value = { List ℕ × Option (List ℕ) };
 
     ghost view = { λ e. (
-      table_in e.tail ∷ key_of (head_in e.first e.second e.third e.fourth e.tail)
-          (rest_in e.tail),
+      table_in e.tail ∷ key_of (head_in e.first e.second e.tail) (rest_in e.tail),
       row_in e.tail,
     ) };
 
-    ghost invariant = { λ e. IsHeadOf
-        (key_of (head_in e.first e.second e.third e.fourth e.tail) (rest_in e.tail))
-        (head_in e.first e.second e.third e.fourth e.tail) (rest_in e.tail) × HasRoom e.tail };
+    ghost invariant = { λ e. IsHeadOf (key_of (head_in e.first e.second e.tail) (rest_in e.tail))
+        (head_in e.first e.second e.tail) (rest_in e.tail) };
 }
 
 impl Entry {
@@ -53,12 +49,10 @@ impl Entry {
         ensures { IfOk result (λ entry. entry ≡ (probe.now, Some row.now)) }
     {
         let (head, rest) = probe.parts();
-        let tail = Tail::of(alloc, head.tab, head.count, rest, row)?;
+        let tail = Tail::of(alloc, &head, rest, row)?;
         Ok(Entry {
             first: head.first,
             second: head.second,
-            third: head.third,
-            fourth: head.fourth,
             tail,
         })
     }
@@ -67,7 +61,7 @@ impl Entry {
     pub fn probe(&self) -> Probe<'_>
         ensures { result ≡ self.now.0 }
     {
-        let head = head_with(self.first, self.second, self.third, self.fourth, &self.tail);
+        let head = head_with(self.first, self.second, &self.tail);
         Probe::from_parts(head, self.tail.rest())
     }
 
@@ -77,22 +71,22 @@ impl Entry {
         ensures { result ≡ bytes_cmp self.now.0 probe.now }
     {
         let (other, rest) = probe.parts();
-        let head = head_with(self.first, self.second, self.third, self.fourth, &self.tail);
-        match head.compare(&other) {
+        match compare_heads(self.first, self.second, &self.tail, &other) {
             Ordering::Equal => self.tail.compare_rest(rest),
             order => order,
         }
     }
 
-    /// The same. Mostly the head tells.
+    /// Whether the place is below one that is looked for. Mostly its head tells.
     #[inline(always)]
-    pub fn compare_by_head(&self, probe: &Probe<'_>) -> Ordering
-        ensures { result ≡ bytes_cmp self.now.0 probe.now }
+    pub fn is_below(&self, probe: &Probe<'_>) -> bool
+        ensures { result ≡ is_lt (bytes_cmp self.now.0 probe.now) }
     {
-        match probe.compare_head(&self.head()) {
-            Ordering::Less => Ordering::Less,
-            Ordering::Equal => self.compare(probe),
-            Ordering::Greater => Ordering::Greater,
+        let (other, rest) = probe.parts();
+        match compare_heads(self.first, self.second, &self.tail, &other) {
+            Ordering::Less => true,
+            Ordering::Equal => self.tail.rest_is_below(rest),
+            Ordering::Greater => false,
         }
     }
 
@@ -101,7 +95,7 @@ impl Entry {
     pub fn head(&self) -> Head
         ensures { IsHeadOfPlace result self.now.0 }
     {
-        head_with(self.first, self.second, self.third, self.fourth, &self.tail)
+        head_with(self.first, self.second, &self.tail)
     }
 
     /// Whether there is a row.
@@ -145,7 +139,7 @@ impl Entry {
     pub fn write_key(&self, key: &mut Vec<u8>) -> Result<u8, AllocError>
         ensures { IfOk result (λ tab. self.now.0 ≡ tab ∷ key.new.items) }
     {
-        let head = head_with(self.first, self.second, self.third, self.fourth, &self.tail);
+        let head = head_with(self.first, self.second, &self.tail);
         head.write(key)?;
         let tab = self.tail.tab();
         if !self.tail.has_rest() {
@@ -162,7 +156,7 @@ impl AppendKey for Entry {
     #[inline(always)]
     #[tactic(auto, using(bdb_keep::proofs::SpanLemmas::front_itself, bdb_keep::proofs::SpanLemmas::front_before, bdb_keep::proofs::SpanLemmas::front_longer, bdb_keep::proofs::SpanLemmas::front_farther))]
     fn append_key(&self, bytes: &mut Vec<u8>) -> Result<(), AllocError> {
-        let head = head_with(self.first, self.second, self.third, self.fourth, &self.tail);
+        let head = head_with(self.first, self.second, &self.tail);
         head.append_to(bytes)?;
         if !self.tail.has_rest() {
             return Ok(());
@@ -172,17 +166,60 @@ impl AppendKey for Entry {
     }
 }
 
-/// The head of a place with these numbers.
+/// The head of a place with these numbers and this tail.
 #[inline(always)]
-fn head_with(first: u64, second: u64, third: u64, fourth: u64, tail: &Tail) -> Head
-    ensures { result ≡ head_in first second third fourth tail.now }
+fn head_with(first: u64, second: u64, tail: &Tail) -> Head
+    ensures { result ≡ head_in first second tail.now }
 {
     Head {
         tab: tail.tab(),
         count: tail.count(),
         first,
         second,
-        third,
-        fourth,
+        third: tail.third(),
+        fourth: tail.fourth(),
     }
+}
+
+/// How it compares with another. Where the first numbers tell, no others are looked at.
+#[inline(always)]
+fn compare_heads(first: u64, second: u64, tail: &Tail, other: &Head) -> Ordering
+    ensures { result ≡ heads_cmp (head_in first second tail.now) other.now }
+{
+    let tab = tail.tab();
+    if tab != other.tab {
+        return tab.cmp(&other.tab);
+    }
+    compare_numbers(first, second, tail, other)
+}
+
+/// The same in one table.
+#[inline(always)]
+fn compare_numbers(first: u64, second: u64, tail: &Tail, other: &Head) -> Ordering
+    ensures { result ≡ numbers_cmp (head_in first second tail.now) other.now }
+{
+    if first != other.first {
+        return first.cmp(&other.first);
+    }
+    if second != other.second {
+        return second.cmp(&other.second);
+    }
+    let third = tail.third();
+    if third != other.third {
+        return third.cmp(&other.third);
+    }
+    compare_last(tail, other.fourth, other.count)
+}
+
+/// How they compare by the fourth number, and then by how many bytes of the key are numbers.
+#[inline(never)]
+fn compare_last(tail: &Tail, fourth: u64, count: u8) -> Ordering
+    ensures { result ≡ ordering_then (nat_cmp (fourth_in tail.now) fourth)
+        (nat_cmp (count_in tail.now) count) }
+{
+    let own = tail.fourth();
+    if own != fourth {
+        return own.cmp(&fourth);
+    }
+    tail.count().cmp(&count)
 }

@@ -23,7 +23,7 @@ pub fn find(blocks: &[Block], probe: &Probe<'_>) -> Result<Spot, Spot>
     let bound = seek(blocks, probe);
     match first_at(blocks, bound) {
         Some(spot) => {
-            if entry_of(blocks, spot).compare_by_head(probe).is_eq() {
+            if entry_of(blocks, spot).compare(probe).is_eq() {
                 Ok(spot)
             } else {
                 Err(bound)
@@ -99,7 +99,7 @@ pub fn find_beside(
     ensures belongs { IfSome result (λ found. BelongsAmong (joined blocks.now) probe.now is_last) }
 {
     match first_at(blocks, spot) {
-        Some(here) => match entry_of(blocks, here).compare_by_head(probe) {
+        Some(here) => match entry_of(blocks, here).compare(probe) {
             Ordering::Less => find_behind(blocks, here, is_last, probe),
             Ordering::Equal => Some(Ok(here)),
             Ordering::Greater => find_before(blocks, here, is_last, probe),
@@ -130,7 +130,7 @@ fn find_before(
         return None;
     }
     let last = (spot.0, spot.1 - 1);
-    match entry_of(blocks, last).compare_by_head(probe) {
+    match entry_of(blocks, last).compare(probe) {
         Ordering::Less => Some(Err(spot)),
         Ordering::Equal => Some(Ok(last)),
         Ordering::Greater => None,
@@ -158,7 +158,7 @@ pub fn find_behind(
 {
     let behind = (spot.0, spot.1 + 1);
     match first_at(blocks, behind) {
-        Some(next) => match entry_of(blocks, next).compare_by_head(probe) {
+        Some(next) => match entry_of(blocks, next).compare(probe) {
             Ordering::Less => None,
             Ordering::Equal => Some(Ok(next)),
             Ordering::Greater => Some(Err(behind)),

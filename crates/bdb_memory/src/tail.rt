@@ -1,95 +1,206 @@
-// What lies behind the numbers of an entry's key.
-ghost use Rattle.std.specs.Prelude.{◌≡◌, ◌++◌, [], false, Some, IfOk, OnOk, OnErr, is_some};
+// What lies behind the first two numbers of an entry's key.
+ghost use Rattle.std.specs.Prelude.{◌≡◌, ◌++◌, [], false, Some, IfOk, IfSome, OnOk, OnErr, is_some};
 ghost use Rattle.std.specs.Option.{option_copied};
+ghost use Rattle.std.specs.Ordering.{is_lt};
 ghost use Rattle.bdb_base.specs.Segments.{is_prefix};
 ghost use Rattle.bdb_keep.specs.Tables.{bytes_cmp};
-ghost use Rattle.bdb_memory.specs.RowBytes.{row_bytes, HaveRoom};
-ghost use Rattle.bdb_memory.specs.Tails.{table_in, count_in, rest_in, row_in, HasRoom};
+ghost use Rattle.bdb_memory.specs.RowBytes.{row_bytes};
+ghost use Rattle.bdb_memory.specs.Tails.{table_in, count_in, third_in, fourth_in, highest, rest_in, row_in};
 
 use crate::bytes::{begins_with, compare_words};
-use crate::row::{Bytes, Row};
+use crate::head::Head;
+use crate::row::{Bytes, Long, Row};
 use std::alloc::{AllocError, Global};
 use std::cmp::Ordering;
 use std::mem::replace;
 
-/// The number of the table of an entry, how many bytes of its key are numbers, and what else there is: most rows have a few bytes and
-/// most keys no more than the numbers, so that an entry takes no memory of its own.
+/// The number of the table of an entry, how many bytes of its key are numbers, the third and the fourth of these numbers, and what
+/// else there is. Nearly all keys have up to 25 bytes and nearly all rows four, so that an entry takes no memory of its own: of the
+/// fourth number only the highest byte, the 25th of the key, lies here. Where more of it isn't zero, or the key has more bytes than
+/// its numbers, all that is behind the second number lies elsewhere.
 #[derive(Drop)]
 pub enum Tail {
     /// No row.
-    Bare(u8, u8),
-    /// A row: so many of these bytes.
-    Short(u8, u8, u8, [u8; 10]),
-    /// A longer row.
-    Long(u8, u8, Box<Vec<u8>>),
+    Bare {
+        tab: u8,
+        count: u8,
+        byte: u8,
+        third: u64,
+    },
+    /// A row without bytes.
+    Empty {
+        tab: u8,
+        count: u8,
+        byte: u8,
+        third: u64,
+    },
+    /// A row of four bytes.
+    Four {
+        tab: u8,
+        count: u8,
+        byte: u8,
+        bytes: [u8; 4],
+        third: u64,
+    },
+    /// Any other row, with the third number beside it.
+    Long {
+        tab: u8,
+        count: u8,
+        byte: u8,
+        long: Box<Long>,
+    },
     /// More bytes of the key.
-    Far(u8, u8, Box<More>),
+    Far {
+        tab: u8,
+        count: u8,
+        more: Box<More>,
+    },
 }
 
-/// The bytes of a key behind its numbers, and the row, if there is one.
+/// The third and the fourth number of a key, its bytes behind these, and the row, if there is one.
 #[derive(Drop)]
 pub struct More {
+    pub third: u64,
+    pub fourth: u64,
     pub rest: Vec<u8>,
     pub row: Option<Row>,
 }
 
 impl Tail {
-    /// The tail of a place with a copy of these bytes as its row.
+    /// The tail of a place with this head, these bytes of the key behind it, and a copy of these bytes as its row.
     #[inline(always)]
-    pub fn of(
-        alloc: Global,
-        tab: u8,
-        count: u8,
-        rest: &[u8],
-        row: &[u8],
-    ) -> Result<Self, AllocError>
-        ensures tab { IfOk result (λ tail. table_in tail ≡ tab) }
-        ensures count { IfOk result (λ tail. count_in tail ≡ count) }
+    pub fn of(alloc: Global, head: &Head, rest: &[u8], row: &[u8]) -> Result<Self, AllocError>
+        ensures tab { IfOk result (λ tail. table_in tail ≡ head.now.tab) }
+        ensures count { IfOk result (λ tail. count_in tail ≡ head.now.count) }
+        ensures third { IfOk result (λ tail. third_in tail ≡ head.now.third) }
+        ensures fourth { IfOk result (λ tail. fourth_in tail ≡ head.now.fourth) }
         ensures rest { IfOk result (λ tail. rest_in tail ≡ rest.now) }
         ensures row { IfOk result (λ tail. row_in tail ≡ Some row.now) }
-        ensures room { IfOk result (λ tail. HasRoom tail) }
     {
-        if !rest.is_empty() {
-            let more = more_of(alloc, rest, row)?;
-            return Ok(Tail::Far(tab, count, more));
-        }
-        match row {
-            // Most rows have four bytes.
-            [a, b, c, d] => {
-                let bytes = [*a, *b, *c, *d, 0, 0, 0, 0, 0, 0];
-                Ok(Tail::Short(tab, count, 4, bytes))
-            }
-            _ => Ok(Tail::with(tab, count, Bytes::of(alloc, row)?)),
+        match byte_alone(head.fourth, rest) {
+            Some(byte) => Tail::near(alloc, head, byte, row),
+            None => Tail::far(alloc, head, rest, row),
         }
     }
 
-    /// The tail of a place with this row whose key is numbers alone.
+    /// The same where there is no more of the key than this byte behind the third number.
     #[inline(always)]
-    fn with(tab: u8, count: u8, row: Bytes) -> Self
-        requires { HaveRoom row }
-        ensures tab { table_in result ≡ tab }
-        ensures count { count_in result ≡ count }
-        ensures rest { rest_in result ≡ [] }
-        ensures row { row_in result ≡ Some (row_bytes row) }
-        ensures room { HasRoom result }
+    fn near(alloc: Global, head: &Head, byte: u8, row: &[u8]) -> Result<Self, AllocError>
+        ensures tab { IfOk result (λ tail. table_in tail ≡ head.now.tab) }
+        ensures count { IfOk result (λ tail. count_in tail ≡ head.now.count) }
+        ensures third { IfOk result (λ tail. third_in tail ≡ head.now.third) }
+        ensures fourth { IfOk result (λ tail. fourth_in tail ≡ highest byte) }
+        ensures rest { IfOk result (λ tail. rest_in tail ≡ []) }
+        ensures row { IfOk result (λ tail. row_in tail ≡ Some row.now) }
     {
         match row {
-            Bytes::Short(length, bytes) => Tail::Short(tab, count, length, bytes),
-            Bytes::Long(bytes) => Tail::Long(tab, count, bytes),
+            // Nearly all rows have four bytes.
+            [a, b, c, d] => Ok(Tail::Four {
+                tab: head.tab,
+                count: head.count,
+                byte,
+                bytes: [*a, *b, *c, *d],
+                third: head.third,
+            }),
+            _ => {
+                let row = Bytes::of(alloc, row)?;
+                Ok(Tail::with(head.tab, head.count, byte, head.third, row))
+            }
+        }
+    }
+
+    /// The same where there may be more.
+    #[inline(never)]
+    fn far(alloc: Global, head: &Head, rest: &[u8], row: &[u8]) -> Result<Self, AllocError>
+        ensures tab { IfOk result (λ tail. table_in tail ≡ head.now.tab) }
+        ensures count { IfOk result (λ tail. count_in tail ≡ head.now.count) }
+        ensures third { IfOk result (λ tail. third_in tail ≡ head.now.third) }
+        ensures fourth { IfOk result (λ tail. fourth_in tail ≡ head.now.fourth) }
+        ensures rest { IfOk result (λ tail. rest_in tail ≡ rest.now) }
+        ensures row { IfOk result (λ tail. row_in tail ≡ Some row.now) }
+    {
+        let rest = Vec::from_slice(alloc, rest)?;
+        let row = Row::of(alloc, row)?;
+        let more = Box::new(
+            alloc,
+            More {
+                third: head.third,
+                fourth: head.fourth,
+                rest,
+                row: Some(row),
+            },
+        )?;
+        Ok(Tail::Far {
+            tab: head.tab,
+            count: head.count,
+            more,
+        })
+    }
+
+    /// The tail of a place with this row, and no more of its key than this byte behind the third number.
+    #[inline(always)]
+    fn with(tab: u8, count: u8, byte: u8, third: u64, row: Bytes) -> Self
+        ensures tab { table_in result ≡ tab }
+        ensures count { count_in result ≡ count }
+        ensures third { third_in result ≡ third }
+        ensures fourth { fourth_in result ≡ highest byte }
+        ensures rest { rest_in result ≡ [] }
+        ensures row { row_in result ≡ Some (row_bytes row) }
+    {
+        match row {
+            Bytes::Empty => Tail::Empty {
+                tab,
+                count,
+                byte,
+                third,
+            },
+            Bytes::Four(bytes) => Tail::Four {
+                tab,
+                count,
+                byte,
+                bytes,
+                third,
+            },
+            Bytes::Long(mut long) => {
+                long.third = third;
+                Tail::Long {
+                    tab,
+                    count,
+                    byte,
+                    long,
+                }
+            }
         }
     }
 
     /// The same where there may be no row.
-    fn with_any(tab: u8, count: u8, row: Option<Row>) -> Self
+    fn with_any(tab: u8, count: u8, byte: u8, third: u64, row: Option<Row>) -> Self
         ensures tab { table_in result ≡ tab }
         ensures count { count_in result ≡ count }
+        ensures third { third_in result ≡ third }
+        ensures fourth { fourth_in result ≡ highest byte }
         ensures rest { rest_in result ≡ [] }
         ensures row { row_in result ≡ row }
-        ensures room { HasRoom result }
     {
         match row {
-            Some(row) => Tail::with(tab, count, row.into_bytes()),
-            None => Tail::Bare(tab, count),
+            Some(row) => Tail::with(tab, count, byte, third, row.into_bytes()),
+            None => Tail::Bare {
+                tab,
+                count,
+                byte,
+                third,
+            },
+        }
+    }
+
+    /// What stands in the place of a tail while its row changes.
+    #[inline(always)]
+    fn nothing() -> Self {
+        Tail::Bare {
+            tab: 0,
+            count: 0,
+            byte: 0,
+            third: 0,
         }
     }
 
@@ -99,10 +210,11 @@ impl Tail {
         ensures { result ≡ table_in self.now }
     {
         match self {
-            Tail::Bare(tab, _) => *tab,
-            Tail::Short(tab, _, _, _) => *tab,
-            Tail::Long(tab, _, _) => *tab,
-            Tail::Far(tab, _, _) => *tab,
+            Tail::Bare { tab, .. } => *tab,
+            Tail::Empty { tab, .. } => *tab,
+            Tail::Four { tab, .. } => *tab,
+            Tail::Long { tab, .. } => *tab,
+            Tail::Far { tab, .. } => *tab,
         }
     }
 
@@ -112,36 +224,67 @@ impl Tail {
         ensures { result ≡ count_in self.now }
     {
         match self {
-            Tail::Bare(_, count) => *count,
-            Tail::Short(_, count, _, _) => *count,
-            Tail::Long(_, count, _) => *count,
-            Tail::Far(_, count, _) => *count,
+            Tail::Bare { count, .. } => *count,
+            Tail::Empty { count, .. } => *count,
+            Tail::Four { count, .. } => *count,
+            Tail::Long { count, .. } => *count,
+            Tail::Far { count, .. } => *count,
         }
     }
 
-    /// The bytes of the key behind these.
+    /// The third of the numbers.
+    #[inline(always)]
+    pub fn third(&self) -> u64
+        ensures { result ≡ third_in self.now }
+    {
+        match self {
+            Tail::Bare { third, .. } => *third,
+            Tail::Empty { third, .. } => *third,
+            Tail::Four { third, .. } => *third,
+            Tail::Long { long, .. } => long.third,
+            Tail::Far { more, .. } => more.third,
+        }
+    }
+
+    /// The fourth of the numbers.
+    #[inline(always)]
+    pub fn fourth(&self) -> u64
+        ensures { result ≡ fourth_in self.now }
+    {
+        match self {
+            Tail::Bare { byte, .. } => with_zeros(*byte),
+            Tail::Empty { byte, .. } => with_zeros(*byte),
+            Tail::Four { byte, .. } => with_zeros(*byte),
+            Tail::Long { byte, .. } => with_zeros(*byte),
+            Tail::Far { more, .. } => more.fourth,
+        }
+    }
+
+    /// The bytes of the key behind the numbers.
     #[inline(always)]
     pub fn rest(&self) -> &[u8]
         ensures { result.now ≡ rest_in self.now }
     {
         match self {
-            Tail::Far(_, _, more) => more.rest.as_slice(),
-            Tail::Bare(_, _) => &[],
-            Tail::Short(_, _, _, _) => &[],
-            Tail::Long(_, _, _) => &[],
+            Tail::Far { more, .. } => more.rest.as_slice(),
+            Tail::Bare { .. } => &[],
+            Tail::Empty { .. } => &[],
+            Tail::Four { .. } => &[],
+            Tail::Long { .. } => &[],
         }
     }
 
-    /// Whether there are any.
+    /// Whether there may be any.
     #[inline(always)]
     pub fn has_rest(&self) -> bool
         ensures { result ≡ false → rest_in self.now ≡ [] }
     {
         match self {
-            Tail::Far(_, _, _) => true,
-            Tail::Bare(_, _) => false,
-            Tail::Short(_, _, _, _) => false,
-            Tail::Long(_, _, _) => false,
+            Tail::Far { .. } => true,
+            Tail::Bare { .. } => false,
+            Tail::Empty { .. } => false,
+            Tail::Four { .. } => false,
+            Tail::Long { .. } => false,
         }
     }
 
@@ -152,13 +295,14 @@ impl Tail {
         ensures err { OnErr result (key.new.items ≡ key.old.items) }
     {
         match self {
-            Tail::Far(_, _, more) => {
+            Tail::Far { more, .. } => {
                 key.extend_from_slice(more.rest.as_slice())?;
                 Ok(())
             }
-            Tail::Bare(_, _) => Ok(()),
-            Tail::Short(_, _, _, _) => Ok(()),
-            Tail::Long(_, _, _) => Ok(()),
+            Tail::Bare { .. } => Ok(()),
+            Tail::Empty { .. } => Ok(()),
+            Tail::Four { .. } => Ok(()),
+            Tail::Long { .. } => Ok(()),
         }
     }
 
@@ -172,6 +316,14 @@ impl Tail {
             return Ordering::Equal;
         }
         compare_words(rest, other)
+    }
+
+    /// Whether they are below others.
+    #[inline(never)]
+    pub fn rest_is_below(&self, other: &[u8]) -> bool
+        ensures { result ≡ is_lt (bytes_cmp (rest_in self.now) other.now) }
+    {
+        self.compare_rest(other).is_lt()
     }
 
     /// Whether they begin so. Mostly no bytes are asked for.
@@ -191,24 +343,25 @@ impl Tail {
         ensures { result ≡ is_some (row_in self.now) }
     {
         match self {
-            Tail::Bare(_, _) => false,
-            Tail::Short(_, _, _, _) => true,
-            Tail::Long(_, _, _) => true,
-            Tail::Far(_, _, more) => more.row.is_some(),
+            Tail::Bare { .. } => false,
+            Tail::Empty { .. } => true,
+            Tail::Four { .. } => true,
+            Tail::Long { .. } => true,
+            Tail::Far { more, .. } => more.row.is_some(),
         }
     }
 
     /// The row, if there is one.
     #[inline(always)]
     pub fn row(&self) -> Option<&[u8]>
-        requires { HasRoom self.now }
         ensures { option_copied result ≡ row_in self.now }
     {
         match self {
-            Tail::Bare(_, _) => None,
-            Tail::Short(_, _, length, bytes) => Some(&bytes[..usize::from(*length)]),
-            Tail::Long(_, _, bytes) => Some(bytes.as_slice()),
-            Tail::Far(_, _, more) => match &more.row {
+            Tail::Bare { .. } => None,
+            Tail::Empty { .. } => Some(&[]),
+            Tail::Four { bytes, .. } => Some(bytes.as_slice()),
+            Tail::Long { long, .. } => Some(long.bytes.as_slice()),
+            Tail::Far { more, .. } => match &more.row {
                 Some(row) => Some(row.as_slice()),
                 None => None,
             },
@@ -218,49 +371,58 @@ impl Tail {
 
 /// Puts another row into a tail, or none, and answers what was there. It takes no memory.
 pub fn swap_row(tail: &mut Tail, row: Option<Row>) -> Option<Row>
-    requires { HasRoom tail.old }
     ensures before { result ≡ row_in tail.old }
     ensures tab { table_in tail.new ≡ table_in tail.old }
     ensures count { count_in tail.new ≡ count_in tail.old }
+    ensures third { third_in tail.new ≡ third_in tail.old }
+    ensures fourth { fourth_in tail.new ≡ fourth_in tail.old }
     ensures rest { rest_in tail.new ≡ rest_in tail.old }
     ensures row { row_in tail.new ≡ row }
-    ensures room { HasRoom tail.new }
 {
-    match replace(tail, Tail::Bare(0, 0)) {
-        Tail::Bare(tab, count) => {
-            *tail = Tail::with_any(tab, count, row);
+    let (tab, count, third) = (tail.tab(), tail.count(), tail.third());
+    match replace(tail, Tail::nothing()) {
+        Tail::Bare { byte, .. } => {
+            *tail = Tail::with_any(tab, count, byte, third, row);
             None
         }
-        Tail::Short(tab, count, length, bytes) => {
-            *tail = Tail::with_any(tab, count, row);
-            Some(Row::from_bytes(Bytes::Short(length, bytes)))
+        Tail::Empty { byte, .. } => {
+            *tail = Tail::with_any(tab, count, byte, third, row);
+            Some(Row::from_bytes(Bytes::Empty))
         }
-        Tail::Long(tab, count, bytes) => {
-            *tail = Tail::with_any(tab, count, row);
-            Some(Row::from_bytes(Bytes::Long(bytes)))
+        Tail::Four { byte, bytes, .. } => {
+            *tail = Tail::with_any(tab, count, byte, third, row);
+            Some(Row::from_bytes(Bytes::Four(bytes)))
         }
-        Tail::Far(tab, count, mut more) => {
+        Tail::Long { byte, long, .. } => {
+            *tail = Tail::with_any(tab, count, byte, third, row);
+            Some(Row::from_bytes(Bytes::Long(long)))
+        }
+        Tail::Far { mut more, .. } => {
             let before = replace(&mut more.row, row);
-            *tail = Tail::Far(tab, count, more);
+            *tail = Tail::Far { tab, count, more };
             before
         }
     }
 }
 
-/// Copies of the bytes of a key behind its numbers, and of a row.
-#[inline(never)]
-fn more_of(alloc: Global, rest: &[u8], row: &[u8]) -> Result<Box<More>, AllocError>
-    ensures rest { IfOk result (λ more. more.value.rest.items ≡ rest.now) }
-    ensures row { IfOk result (λ more. more.value.row ≡ Some row.now) }
+/// The number of eight bytes of which this is the highest and the others are zero.
+#[inline(always)]
+fn with_zeros(byte: u8) -> u64
+    ensures { result ≡ highest byte }
 {
-    let rest = Vec::from_slice(alloc, rest)?;
-    let row = Row::of(alloc, row)?;
-    let more = Box::new(
-        alloc,
-        More {
-            rest,
-            row: Some(row),
-        },
-    )?;
-    Ok(more)
+    u64::from(byte) << 56
+}
+
+/// The highest byte of the fourth number of a key. None where another of its bytes isn't zero, or there is more of the key.
+#[inline(always)]
+fn byte_alone(fourth: u64, rest: &[u8]) -> Option<u8>
+    ensures fourth { IfSome result (λ byte. highest byte ≡ fourth) }
+    ensures rest { IfSome result (λ byte. rest.now ≡ []) }
+{
+    let byte = (fourth >> 56) as u8;
+    if rest.is_empty() && with_zeros(byte) == fourth {
+        Some(byte)
+    } else {
+        None
+    }
 }
