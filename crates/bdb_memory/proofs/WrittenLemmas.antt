@@ -1,4 +1,4 @@
--- The changes of a store, written over the rows last settled, give the rows.
+-- The changes of a store, written over the rows last committed, give the rows.
 use Rattle.std.proofs.Common.{◌≡◌, ℕ, ◌<◌, Bool, true, false, cond, List, [], ◌∷◌, length, get_or, zero, suc, subst, arith, Some, refl, sym, ap, ◌∙◌, ◌⊎◌, inl, inr}
 use Rattle.std.specs.Prelude.{slice_get}
 use Rattle.std.specs.Ordering.{eq_by_cmp}
@@ -49,7 +49,7 @@ undone-agrees (c ∷ cs) t q = there (eq_by_cmp bytes_cmp q c.place) refl (undon
     there false e (inl a) = inl (inr a)
     there false e (inr s) = inr (s ∙ sym (get-set_at (undone cs t) c.place c.before q ∙ ap (λ b. cond b c.before (map.get (undone cs t) q)) e))
 
--- the changes, written over the rows last settled, give the rows
+-- the changes, written over the rows last committed, give the rows
 pub written-undone : (cs : List PlaceChange) (t : Tables) → written (places_of cs) t (undone cs t) ≡ t
 written-undone cs t = written-agrees (places_of cs) t (undone cs t) (undone-agrees cs t)
 

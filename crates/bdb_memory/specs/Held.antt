@@ -4,7 +4,7 @@ use Rattle.std.specs.Coded.{Coded, code_by, coded×, coded_ℕ, coded_list}
 use Rattle.std.specs.FinMap as map
 use Rattle.bdb_keep.specs.Tables.{Tables, coded_tables, set_at}
 
--- the rows as they read now, the rows last settled, and the places changed since, each once or more
+-- the rows as they read now, the rows last committed, and the places changed since, each once or more
 pub record Held : Type 0 where
   pub kept : Tables
   pub last : Tables

@@ -80,7 +80,7 @@ impl Ledger {
         Ledger::over(Store::new(alloc), 0)
     }
 
-    /// A ledger over settled rows, where nothing runs and nothing was counted but these faults.
+    /// A ledger over committed rows, where nothing runs and nothing was counted but these faults.
     pub fn over(store: Store, faults: u64) -> Self
         requires settled { store.kept ≡ store.last }
         requires tables { LieInTables store.kept }
@@ -306,7 +306,7 @@ impl Ledger {
         } }
         ensures counts { NeverFall self.old.seen self.new.seen }
     {
-        self.store.forget();
+        self.store.commit();
         self.running = false;
         self.commits = self.commits.saturating_add(1);
     }
@@ -376,7 +376,7 @@ impl Ledger {
         }
     }
 
-    /// Takes a row away as if that had been committed. It takes no memory, and looks at each row.
+    /// Takes a row away as if that had been committed. It takes no memory.
     pub fn unset(&mut self, tab: u8, key: &[u8])
         requires table { (1 ≤ tab) × (tab ≤ 15) }
         requires still { self.old.seen.running ≡ false }

@@ -105,8 +105,8 @@ impl Rows {
         Ok(before)
     }
 
-    /// Puts a row at a place that is new, and answers whether it is. Nothing changes where it isn't beside the one that was used last in its
-    /// table, or memory is wanting, and then the answer is false as well.
+    /// Puts a row at a place that is new, and answers whether it did. Where the place was there, or isn't beside the one that was written
+    /// or read last in its table, or memory runs out, the answer is false, and nothing changes.
     #[inline(always)]
     pub fn add_beside(&mut self, probe: &Probe<'_>, row: &[u8]) -> bool
         ensures absent { result ≡ true → place_at self.old probe.now ≡ None }

@@ -1,4 +1,4 @@
-// Putting and taking away rows in the order of their places, each right behind the one before it.
+// Putting and taking away rows beside the place that was used last: right behind it, or where a new place belongs near it.
 ghost use Rattle.std.specs.Prelude.{◌≡◌, Some, None, IfSome, IfNone, OnSome};
 ghost use Rattle.bdb_memory.specs.Entries.{place_at, row_of, IsSetAt};
 ghost use Rattle.bdb_memory.specs.Blocks.{joined, AreSorted};
@@ -77,7 +77,7 @@ fn put_on(
 }
 
 /// Puts a row at a new place, and answers where. None, and nothing changes, where the place is there already, or isn't beside the cursor, or
-/// memory is wanting.
+/// memory runs out.
 #[inline(always)]
 pub fn add_beside(
     alloc: Global,

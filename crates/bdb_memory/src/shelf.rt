@@ -267,7 +267,7 @@ impl Shelf {
     }
 
     /// Puts a row at a new place, and answers where. None, and nothing changes, where the place is there already, where it isn't sure that it
-    /// belongs on this shelf, or where memory is wanting.
+    /// belongs on this shelf, or where memory runs out.
     #[inline(always)]
     pub fn add_beside(
         &mut self,

@@ -16,8 +16,8 @@ use bdb_keep::{KeyEnd, Span};
 use std::alloc::{AllocError, Global};
 use std::marker::Model;
 
-/// Rows in memory that remember how they were when they were last settled. The room to undo a change is taken before
-/// the change, so neither to forget the changes nor to undo them takes memory. A keeper is made of one.
+/// Rows in memory that remember how they were when they were last committed. The room to undo a change is taken before
+/// the change, so neither to commit the changes nor to undo them takes memory. A keeper is made of one.
 #[derive(Drop)]
 pub struct Store {
     alloc: Global,
@@ -146,14 +146,14 @@ impl Store {
         take_rows(self.alloc, &mut self.rows, &mut self.changes, tab, span)
     }
 
-    /// Forgets the changes: the rows are now those last settled. It takes no memory.
-    pub fn forget(&mut self)
+    /// Commits the changes: the rows are now those last committed. It takes no memory.
+    pub fn commit(&mut self)
         ensures { self.new ≡ record { kept = self.old.kept; last = self.old.kept; changes = [] } }
     {
         forget(&mut self.rows, &mut self.changes);
     }
 
-    /// Undoes the changes: the rows are those last settled. It takes no memory.
+    /// Undoes the changes: the rows are those last committed. It takes no memory.
     pub fn undo(&mut self)
         ensures { self.new ≡ record { kept = self.old.last; last = self.old.last; changes = [] } }
     {
@@ -189,7 +189,7 @@ impl Store {
         self.rows.lies_within(&other.rows) && other.rows.lies_within(&self.rows)
     }
 
-    /// How many changes are not settled. To write the rows that are now at their places over the rows last settled
+    /// How many changes are not committed. To write the rows that are now at their places over the rows last committed
     /// gives the rows.
     pub fn change_count(&self) -> usize
         ensures count { result ≡ length self.now.changes }

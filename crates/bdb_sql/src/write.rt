@@ -14,7 +14,7 @@ use std::alloc::Global;
 use std::collections::BTreeSet;
 
 /// Writes the changes of a store to the file, all of them or none. The first of all commits makes the table with them.
-/// Where the file had the rows last settled it has the rows of the store afterwards. After a refusal a crash leaves the
+/// Where the file had the rows last committed it has the rows of the store afterwards. After a refusal a crash leaves the
 /// ones or the others.
 #[tactic(auto, using(crate::proofs::BatchLemmas::none_written))]
 pub fn write_changes<S: Alter>(
