@@ -1,16 +1,15 @@
 -- What keeps a base valid, and how its counts change.
-use Rattle.std.proofs.Common.{◌≡◌, ◌∙◌, ℕ, ◌+◌, ◌-◌, ◌≤◌, Bool, true, false, not, ◌&&◌, ◌||◌, cond, List, [], ◌∷◌, ◌++◌, refl, ap, sym, inl, inr, suc, arith, filter, length, map, nat_eq, nat_lt, nat_le, length-append}
+use Rattle.std.proofs.Common.{◌≡◌, ◌∙◌, ℕ, ◌+◌, ◌-◌, ◌≤◌, Bool, true, false, not, ◌&&◌, ◌||◌, cond, List, [], ◌∷◌, ◌++◌, refl, ap, sym, inl, inr, suc, arith, filter, length, map, nat_eq, nat_lt, nat_le, length-append, Option, Some, None}
 use Prim.Native.Nat.{zero}
-use Rattle.std.specs.Bool.{Decides}
 use Rattle.std.specs.List.{list_any, list_all, slice_get, flat_map}
 use Rattle.std.specs.Option.{is_some}
 use Rattle.std.specs.declared.cmp.Ordering.{Ordering}
 use Rattle.std.specs.Ordering.{is_eq}
 use Rattle.std.proofs.lemmas.Bool.{cases_Bool, and_parts, and_from, and_right, or_parts, or_from, or_cases, or_left, or_right, false≢true, not-true, not_from_true, not_from_false, leb-true, le-leb}
-use Rattle.std.proofs.lemmas.Bool.Decides.{Decides-eqb, same_from_decides, Decides-like}
+use Rattle.std.proofs.lemmas.Bool.Decides.{Decides-eqb}
 use Rattle.std.proofs.lemmas.List.{map-append}
 use Rattle.std.proofs.lemmas.List.Elements.{filter_map-append}
-use Rattle.std.proofs.lemmas.List.Folds.{list_any-append, list_all-append}
+use Rattle.std.proofs.lemmas.List.Folds.{list_any-append}
 use Rattle.bdb_base.specs.declared.kinds.Value.{Value}
 use Rattle.bdb_base.specs.declared.kinds.Sign.{Sign}
 use Rattle.bdb_base.specs.declared.kinds.Sign.TheVariants.{Plus, Minus}
@@ -21,26 +20,26 @@ use Rattle.bdb_base.specs.declared.kinds.UserSlot.{UserSlot}
 use Rattle.bdb_base.specs.declared.kinds.UserSlot.TheVariants.{Live}
 use Rattle.bdb_base.specs.declared.tuple.Tuple.{Tuple}
 use Rattle.bdb_base.specs.Alternation.{alternates}
-use Rattle.bdb_base.specs.Order.{statement_cmp}
-use Rattle.bdb_base.specs.OrderLemmas.{statement_exact}
+use Rattle.bdb_base.specs.Order.{statement_cmp, tuple_cmp}
+use Rattle.bdb_base.specs.OrderLemmas.{statement_exact, tuple_exact}
 use Rattle.bdb_base.specs.Same.{same_text, same_path, same_values, same_tuple}
 use Rattle.bdb_base.specs.SameLemmas.{same_text-Decides, same_path-Decides, same_values-Decides, same_tuple-Decides}
 use Rattle.bdb_base.specs.SortedSet.{IsExactOrder, is_member, ascending, put_at, put_in}
 use Rattle.bdb_base.specs.Clash.{key_of, same_key, clash}
 use Rattle.bdb_base.specs.Worlds.{contradicted}
-use Rattle.bdb_base.specs.Bases.{AreStatements, are_distinct, belongs, fits_definition, fits_relation, is_user, is_plain, is_valid_relation, key_at, key_lengths, live_name, name_at, stands, tuple_count, user_names, world_count, with_user, with_relation, with_statement}
+use Rattle.bdb_base.specs.Bases.{AreStatements, are_distinct, belongs, fits_definition, fits_relation, is_user, is_plain, is_valid_relation, key_at, key_lengths, live_name, name_at, stands, tuple_count, user_names, world_count, with_user, with_relation, with_statement, fits_columns, fits_kind}
 use Rattle.bdb_base.specs.States.{prefixes, stated_prefixes}
 use Rattle.bdb_base.specs.BaseLaws.{PutIsValid, TakeIsValid, AddUserIsValid, AddRelationIsValid, PutCountsTuple, PutCountsStatement}
-use Rattle.bdb_base.proofs.ClashLemmas.{clash_by_length}
-use Rattle.bdb_base.proofs.ListLemmas.{list_all_weaker, list_all_both, list_all_from_none, list_all-filter, list_any-filter_none, length-filter_le}
-use Rattle.bdb_base.proofs.SetLemmas.{cases_Ordering, are_above, less_from_greater, above_weaker, absent_above, list_any-put_in, list_all-put_in, put_keeps_order, take_keeps_order}
+use Rattle.bdb_base.specs.declared.kinds.ColDef.{ColDef}
+use Rattle.bdb_base.specs.Queries.{columns_of_definition}
+use Rattle.bdb_base.specs.Limits.{deepest_statement}
+use Rattle.bdb_base.proofs.ClashLemmas.{clash_by_length, turned}
+use Rattle.bdb_base.proofs.ListLemmas.{list_all_weaker, list_all_both, list_all_from_none, list_all-filter, list_any-filter_none, length-filter_le, list_all_push}
+use Rattle.bdb_base.proofs.SetLemmas.{cases_Ordering, are_above, less_from_greater, above_weaker, absent_above, list_any-put_in, list_all-put_in, put_keeps_order, take_keeps_order, is_eq-Equal}
 use Rattle.bdb_base.proofs.WorldRowsLemmas.{list_any-flat_map}
 use Rattle.bdb_base.proofs.CountLemmas.{list_any-map, list_any-filter_some, one_unless, distinct_count-le, distinct_count-same}
 
 -- ---- tests of equality are symmetric, and so is a clash
-
-turned : {X : Type 0} (same : X → X → Bool) → ((a b : X) → Decides (same a b) (a ≡ b)) → (a b : X) → same a b ≡ same b a
-turned same decides a b = same_from_decides (same a b) (same b a) (decides a b) (Decides-like (same b a) (λ e. sym e) (λ e. sym e) (decides b a))
 
 clash_turned : (keys : ℕ → ℕ) (a : Tuple) (s : Sign) (b : Tuple) (t : Sign) → clash keys a s b t ≡ clash keys b t a s
 clash_turned keys a Plus b Plus =
@@ -173,9 +172,6 @@ put_is_valid c stmts s v belong apart room tuples worlds =
 
 -- ---- a longer catalog
 
-list_all_push : {X : Type 0} (p : X → Bool) (xs : List X) (x : X) → list_all p xs ≡ true → p x ≡ true → list_all p (xs ++ x ∷ []) ≡ true
-list_all_push p xs x h g = list_all-append p xs (x ∷ []) ∙ and_from (list_all p xs) (p x && true) h (and_from (p x) true g refl)
-
 distinct_push : (names : List (List ℕ)) (name : List ℕ) → are_distinct names ≡ true → list_any (same_text name) names ≡ false → are_distinct (names ++ name ∷ []) ≡ true
 distinct_push [] name h g = refl
 distinct_push (n ∷ ns) name h g =
@@ -262,7 +258,7 @@ add_user_is_valid c stmts name v plain apart room =
       };
     }
 
-definition_stays : (rels : List RelDef) (def : RelDef) (n : ℕ) (vals : List Value) → fits_definition (slice_get rels n) vals ≡ true → slice_get (rels ++ def ∷ []) n ≡ slice_get rels n
+pub definition_stays : (rels : List RelDef) (def : RelDef) (n : ℕ) (vals : List Value) → fits_definition (slice_get rels n) vals ≡ true → slice_get (rels ++ def ∷ []) n ≡ slice_get rels n
 definition_stays [] def n vals h = absurd (false≢true h)
 definition_stays (r ∷ rels) def zero vals h = refl
 definition_stays (r ∷ rels) def (suc n) vals h = definition_stays rels def n vals h
@@ -310,3 +306,31 @@ add_relation_is_valid c stmts def v valid apart room =
         few_worlds = v.stmts.few_worlds;
       };
     }
+
+-- as many values as columns
+pub as_many_values : (cols : List ColDef) (vals : List Value) → fits_columns cols vals ≡ true → length vals ≡ length cols
+as_many_values [] [] e = refl
+as_many_values [] (v ∷ vals) e = absurd (false≢true e)
+as_many_values (c ∷ cols) [] e = absurd (false≢true e)
+as_many_values (c ∷ cols) (v ∷ vals) e = ap suc (as_many_values cols vals (and_parts (fits_kind c.kind v) (fits_columns cols vals) e).1)
+
+pub fits_its_columns : (def : Option RelDef) (vals : List Value) → fits_definition def vals ≡ true → fits_columns (columns_of_definition def) vals ≡ true
+fits_its_columns None vals h = absurd (false≢true h)
+fits_its_columns (Some def) vals h = h
+
+-- what is stated of a relation fits it
+pub stated_fits : (c : Catalog) (xs : List Stmt) (u : Tuple) → list_all (belongs c) xs ≡ true → list_any (λ x. same_tuple x.tuple u) xs ≡ true → fits_relation c.rels u ≡ true
+stated_fits c [] u b e = absurd (false≢true e)
+stated_fits c (x ∷ xs) u b e =
+    let p = and_parts (belongs c x) (list_all (belongs c) xs) b in
+    let path = alternates x.path && nat_le (length x.path) deepest_statement && list_all (is_user c.users) x.path in
+    elim (or_cases (same_tuple x.tuple u) (list_any (λ y. same_tuple y.tuple u) xs) e) [
+      | inl k ↦ ap (fits_relation c.rels) (sym ((same_tuple-Decides x.tuple u).0 k)) ∙ (and_parts path (fits_relation c.rels x.tuple) p.0).1
+      | inr k ↦ stated_fits c xs u p.1 k
+    ]
+
+pub tied_tuple_is : (t u : Tuple) → is_eq (tuple_cmp t u) ≡ true → t ≡ u
+tied_tuple_is t u e = tuple_exact.exact t u (is_eq-Equal (tuple_cmp t u) e)
+
+pub tied_statement_is : (x y : Stmt) → is_eq (statement_cmp x y) ≡ true → x ≡ y
+tied_statement_is x y e = statement_exact.exact x y (is_eq-Equal (statement_cmp x y) e)

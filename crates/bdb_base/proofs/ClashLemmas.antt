@@ -46,3 +46,6 @@ clash_by_length keys a Plus b Plus = ap (λ c. c && not (same_tuple a b)) (same_
 clash_by_length keys a Plus b Minus = refl
 clash_by_length keys a Minus b Plus = refl
 clash_by_length keys a Minus b Minus = refl
+
+pub clash_of : (keys : ℕ → ℕ) (n : ℕ) (t : Tuple) (s : Sign) (u : Tuple) (r : Sign) → n ≡ keys t.rel → clash (λ _. n) t s u r ≡ clash keys t s u r
+clash_of keys n t s u r e = ap (λ k. clash (λ _. k) t s u r) e ∙ clash_by_length keys t s u r

@@ -11,6 +11,8 @@ use Rattle.std.proofs.lemmas.List.{drop_more, drop_all}
 use Rattle.std.proofs.lemmas.Map.Views.{any-filter_same}
 use Rattle.bdb_base.specs.SortedSet.{IsExactOrder, ascending, put_in, put_all}
 use Rattle.bdb_base.specs.Bases.{distinct_count}
+use Rattle.bdb_base.specs.declared.tuple.Tuple.{Tuple}
+use Rattle.bdb_base.specs.Same.{same_tuple}
 use Rattle.bdb_base.proofs.ListLemmas.{filter_kept_one, filter_dropped_one, list_any-filter_none, list_any_fails}
 use Rattle.bdb_base.proofs.SetLemmas.{is_lt-Less, are_above, put_all_is_ascending, list_any-put_all}
 
@@ -128,3 +130,11 @@ put_all_step R f xs i x set next all h r e rest =
 pub put_all_end : {X Y : Type 0} (R : Y → Y → Ordering) (f : X → Y) (xs : List X) (i : ℕ) (set all : List Y) → length xs ≤ i
     → put_all R set (map f (drop i xs)) ≡ all → set ≡ all
 put_all_end R f xs i set all h rest = ap (λ l. put_all R set (map f l)) (sym (drop_all i xs h)) ∙ rest
+
+pub count_within : (xs : List Tuple) → distinct_count same_tuple xs ≤ length xs
+count_within [] = omega arith
+count_within (x ∷ xs) = by (list_any (same_tuple x) xs) (count_within xs)
+  where
+    by : (b : Bool) → distinct_count same_tuple xs ≤ length xs → one_unless b + distinct_count same_tuple xs ≤ length (x ∷ xs)
+    by true le = omega arith
+    by false le = omega arith

@@ -12,3 +12,9 @@ pub mod UpdateLemmas
 pub mod UserLemmas
 pub mod WorldLemmas
 pub mod WorldRowsLemmas
+pub mod BoolLemmas
+pub mod OptionLemmas
+pub mod FindLemmas
+pub mod AllLemmas
+pub mod ConditionLemmas
+pub mod CauseLemmas

@@ -1,8 +1,8 @@
 -- Numbers of as many bytes come in the order of their bytes.
-use Rattle.std.proofs.Common.{◌≡◌, ℕ, zero, suc, ◌+◌, ◌*◌, ◌/◌, ◌%◌, ◌^◌, ◌<◌, ◌≤◌, List, ◌++◌, refl, sym, ap, ◌∙◌, lit<, lit≤, arith, inl, inr}
+use Rattle.std.proofs.Common.{◌≡◌, ℕ, zero, suc, ◌+◌, ◌*◌, ◌/◌, ◌%◌, ◌^◌, ◌<◌, ◌≤◌, List, ◌++◌, refl, sym, ap, ◌∙◌, lit<, lit≤, arith, inl, inr, true, nat_eq, false, nat_lt}
 use Rattle.std.specs.declared.cmp.Ordering.{Ordering}
 use Rattle.std.specs.declared.cmp.Ordering.TheVariants.{Less, Equal, Greater}
-use Rattle.std.specs.Ordering.{nat_cmp, ordering_then}
+use Rattle.std.specs.Ordering.{nat_cmp, ordering_then, is_le, is_lt, is_eq}
 use Rattle.std.specs.Cmp.Lexicographic.{slice_cmp}
 use Rattle.std.specs.Int.{byte_at, bytes_high_first}
 use Rattle.std.proofs.Math.Arith.{mod-mul}
@@ -73,3 +73,31 @@ numbers k m n x y hm hn =
     high_first k m n x y
     ∙ ap (λ (v : ℕ). ordering_then (nat_cmp v (n % 256 ^ k)) (slice_cmp nat_cmp x y)) (mod-eq_of_lt hm)
     ∙ ap (λ (v : ℕ). ordering_then (nat_cmp m v) (slice_cmp nat_cmp x y)) (mod-eq_of_lt hn)
+
+-- ---- tests of two numbers
+
+pub number_le : (m n : ℕ) → m ≤ n → is_le (nat_cmp m n) ≡ true
+number_le m n h = elim (cases_lt m n) [
+  | inl lt ↦ ap is_le (less m n lt)
+  | inr ge ↦ let e : m ≡ n = omega arith in ap is_le (ap (λ k. nat_cmp k n) e ∙ equal n)
+]
+
+pub less_number : (m n : ℕ) → m < n → is_lt (nat_cmp m n) ≡ true
+less_number m n l = grind (arith, nat_tests)
+
+pub same_number : (m n : ℕ) → is_eq (nat_cmp m n) ≡ true → m ≡ n
+same_number m n e = grind (arith, nat_tests)
+
+pub eq_turned : (m n : ℕ) → is_eq (nat_cmp m n) ≡ nat_eq n m
+eq_turned m n = grind (arith, nat_tests)
+
+pub differs_turned : (m n : ℕ) → nat_eq m n ≡ false → nat_eq n m ≡ false
+differs_turned m n h = grind (arith, nat_tests)
+
+pub not_less : (m n : ℕ) → nat_lt m n ≡ false → n ≤ m
+not_less m n h = grind (arith, nat_tests)
+
+pub then_equal : (r : Ordering) → ordering_then r Equal ≡ r
+then_equal Less = refl
+then_equal Equal = refl
+then_equal Greater = refl

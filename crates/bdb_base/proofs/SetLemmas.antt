@@ -15,6 +15,7 @@ use Rattle.std.proofs.Math.Seq.{drop-cons}
 use Rattle.bdb_base.specs.SortedSet.{IsExactOrder, BelongsAt, is_member, ascending, put_at, put_in, taken_out, sorted_set, put_all}
 use Rattle.bdb_base.specs.SetLaws.{MembersMakeSet, PutKeepsOrder, TakeKeepsOrder, PutAddsMember, TakeDropsMember, SetIsAscending, SetKeepsMembers, LoopMakesSet}
 use Rattle.bdb_base.proofs.ListLemmas.{list_all_weaker, list_any_fails, list_all_from_none, list_all_get, filter_kept_one, filter_dropped_one, list_all-filter, filter_all, or_swap, or_twice, or_false, or_move}
+use Rattle.bdb_base.proofs.BoolLemmas.{or_true}
 
 pub is_lt-Less : (r : Ordering) → is_lt r ≡ true → r ≡ Less
 is_lt-Less Less h = refl
@@ -229,10 +230,6 @@ module _ {X : Type 0} {R : X → X → Ordering} (o : IsExactOrder R) where
       let s : y ≡ x = cc in
       ap (λ b. b || is_member R ys x) (ap (λ z. is_eq (R z x)) s ∙ is_eq_itself x)
   member_stands (y ∷ ys) x (suc at) e = ap (λ b. is_eq (R y x) || b) (member_stands ys x at e) ∙ or_true (is_eq (R y x))
-    where
-      or_true : (a : Bool) → (a || true) ≡ true
-      or_true true = refl
-      or_true false = refl
 
   pub taken_stands : (xs : List X) (x : X) (at : ℕ) → ascending R xs ≡ true → slice_get xs at ≡ Some x → taken_out R xs x ≡ remove xs at
   taken_stands xs x at h e =

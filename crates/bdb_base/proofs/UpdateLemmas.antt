@@ -3,14 +3,15 @@ use Rattle.std.proofs.Common.{◌≡◌, ◌∙◌, ℕ, Bool, true, false, not,
 use Rattle.std.specs.List.{list_any, list_all}
 use Rattle.std.proofs.lemmas.Bool.{cases_Bool, and_parts, and_from, and_left, or_cases, or_from, or_left, or_right, cond-true, cond-false, not-true, not_from_false, le-leb}
 use Rattle.std.proofs.lemmas.Bool.Decides.{Decides-eqb}
+use Rattle.std.specs.Ordering.{is_eq}
 use Rattle.bdb_base.specs.declared.kinds.Catalog.{Catalog}
 use Rattle.bdb_base.specs.declared.kinds.Cond.{Cond}
 use Rattle.bdb_base.specs.declared.kinds.SetCol.{SetCol}
 use Rattle.bdb_base.specs.declared.kinds.Sign.{Sign}
 use Rattle.bdb_base.specs.declared.kinds.Stmt.{Stmt}
 use Rattle.bdb_base.specs.Alternation.{alternates}
-use Rattle.bdb_base.specs.Bases.{belongs, fits_relation, is_user, key_lengths, tuple_count, world_count, with_statement}
-use Rattle.bdb_base.specs.Changes.{is_taken, taken_by, without_taken, changed_statement, with_statements, updated}
+use Rattle.bdb_base.specs.Bases.{belongs, fits_relation, is_user, key_lengths, tuple_count, world_count, with_statement, without_statement, stands}
+use Rattle.bdb_base.specs.Changes.{is_taken, taken_by, without_taken, changed_statement, with_statements, updated, without_statements}
 use Rattle.bdb_base.specs.Clash.{clash}
 use Rattle.bdb_base.specs.Conditions.{meets, changed}
 use Rattle.bdb_base.specs.Order.{statement_cmp}
@@ -23,7 +24,7 @@ use Rattle.bdb_base.specs.Worlds.{contradicted}
 use Rattle.bdb_base.proofs.BaseLemmas.{filter_is_valid}
 use Rattle.bdb_base.proofs.ClashLemmas.{turned}
 use Rattle.bdb_base.proofs.ListLemmas.{list_all_weaker, list_all_both, list_any_fails, list_all-filter, list_any-filter_none, filter_kept_one, filter_dropped_one, or_false, or_move}
-use Rattle.bdb_base.proofs.SetLemmas.{list_any-put_in, list_all-put_in, put_keeps_order, filter_keeps_order}
+use Rattle.bdb_base.proofs.SetLemmas.{list_any-put_in, list_all-put_in, put_keeps_order, filter_keeps_order, take_keeps_order, take_drops_member, is_eq-Equal, members_make_set, put_adds_member}
 
 -- ---- what a test leaves of a valid base
 
@@ -161,3 +162,26 @@ update_is_valid c stmts w s rel conds sets v fit none tuples worlds room =
         few_worlds = le-leb (world_count next) 4000 worlds;
       };
     }
+
+pub without_keeps_order : (xs gone : List Stmt) → ascending statement_cmp xs ≡ true → ascending statement_cmp (without_statements xs gone) ≡ true
+without_keeps_order xs [] s = s
+without_keeps_order xs (x ∷ gone) s = without_keeps_order (without_statement xs x) gone (take_keeps_order statement_exact xs x s)
+
+pub stands_without : (xs gone : List Stmt) (z : Stmt) → stands (without_statements xs gone) z ≡ (not (stands gone z) && stands xs z)
+stands_without xs [] z = refl
+stands_without xs (x ∷ gone) z =
+    stands_without (without_statement xs x) gone z ∙ ap (λ b. not (stands gone z) && b) (take_drops_member statement_exact xs x z)
+    ∙ neither (is_eq (statement_cmp x z)) (stands gone z) (stands xs z)
+  where
+    neither : (a b c : Bool) → (not b && (not a && c)) ≡ (not (a || b) && c)
+    neither true true c = refl
+    neither true false c = refl
+    neither false b c = refl
+
+-- a statement that stands is put to no effect
+pub put_stands : (stmts : List Stmt) (x : Stmt) → ascending statement_cmp stmts ≡ true → stands stmts x ≡ true → with_statement stmts x ≡ stmts
+put_stands stmts x s e = members_make_set statement_exact (with_statement stmts x) stmts (put_keeps_order statement_exact stmts x s) s
+    (λ z. put_adds_member statement_exact stmts x z ∙ elim (cases_Bool (is_eq (statement_cmp x z))) [
+      | inl a ↦ ap (λ b. b || stands stmts z) a ∙ sym (ap (stands stmts) (sym (statement_exact.exact x z (is_eq-Equal (statement_cmp x z) a))) ∙ e)
+      | inr a ↦ ap (λ b. b || stands stmts z) a
+    ])

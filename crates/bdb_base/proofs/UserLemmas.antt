@@ -5,7 +5,7 @@ use Rattle.std.specs.List.{list_any, list_all, slice_get}
 use Rattle.std.specs.Option.{option_and_then, is_some}
 use Rattle.std.specs.declared.cmp.Ordering.{Ordering}
 use Rattle.std.specs.Ordering.{is_eq}
-use Rattle.std.proofs.lemmas.Bool.{cases_Bool, and_parts, and_from, and_left, and_right, or_parts, or_from, or_cases, cond-true, cond-false, false≢true, not-true, eqb-false, eqb-true, lt-ltb, ltb-true}
+use Rattle.std.proofs.lemmas.Bool.{cases_Bool, and_parts, and_from, and_left, and_right, or_parts, or_from, or_cases, cond-true, cond-false, false≢true, not-true, eqb-false, eqb-true, lt-ltb, ltb-true, not_from_false}
 use Rattle.std.proofs.lemmas.List.{length-set}
 use Rattle.std.proofs.lemmas.Option.{none-some, same_Some, slice_get_past}
 use Rattle.bdb_base.specs.declared.kinds.Catalog.{Catalog}
@@ -23,7 +23,7 @@ use Rattle.bdb_base.specs.SortedSet.{IsExactOrder, is_member}
 use Rattle.bdb_base.specs.UserLaws.{DropUserIsValid, WhoLeavesIsGone, WhoIsGoneIsNoUser, GoneAfterUsersCome, GoneAfterUsersLeave, OthersAreUsers, OthersKeepNames, StandsWithoutUser, StatementsAreParted, StatesNameOthers, NameIsFree, NameIsGivenAgain, ComesBack, NumbersAreLive, NumbersAreCounted}
 use Rattle.bdb_base.proofs.BaseLemmas.{add_user_is_valid, belongs_from, belongs_parts, filter_is_valid}
 use Rattle.bdb_base.proofs.ClashLemmas.{turned}
-use Rattle.bdb_base.proofs.ListLemmas.{filter_kept_one, filter_dropped_one}
+use Rattle.bdb_base.proofs.ListLemmas.{filter_kept_one, filter_dropped_one, list_any-filter_none}
 use Rattle.bdb_base.proofs.SetLemmas.{filter_keeps_order, is_eq-Equal}
 
 -- ---- what a test leaves
@@ -281,7 +281,7 @@ names_still_differ (Live n ∷ us) (suc at) h =
 names_still_differ (Gone ∷ us) (suc at) h = names_still_differ us at h
 
 -- a name that is at a place is none of which none is there
-apart_from : (n name : List ℕ) (users : List UserSlot) (at : ℕ) → list_any (same_text n) (user_names users) ≡ false → slice_get users at ≡ Some (Live name) → same_text n name ≡ false
+pub apart_from : (n name : List ℕ) (users : List UserSlot) (at : ℕ) → list_any (same_text n) (user_names users) ≡ false → slice_get users at ≡ Some (Live name) → same_text n name ≡ false
 apart_from n name [] at h e = absurd (none-some (Live name) e)
 apart_from n name (Live m ∷ us) zero h e =
     let s : m ≡ name = cc in
@@ -495,3 +495,16 @@ user_or_new users name uid other e =
   where
     apart : (users : List UserSlot) (uid other : ℕ) → uid ≡ length users + 1 → 0 < other → (other ≡ uid → ⊥) → other - 1 ≡ length users → ⊥
     apart users uid other e above n k = n (omega arith)
+
+-- what a filter leaves of texts that stand once stands once
+pub distinct_filter : (test : List ℕ → Bool) (ps : List (List ℕ)) → are_distinct ps ≡ true → are_distinct (filter test ps) ≡ true
+distinct_filter test [] e = refl
+distinct_filter test (p ∷ ps) e =
+    let k = and_parts (not (list_any (same_text p) ps)) (are_distinct ps) e in
+    let rest = distinct_filter test ps k.1 in
+    elim (cases_Bool (test p)) [
+      | inl c ↦ ap are_distinct (filter_kept_one test p ps c)
+          ∙ and_from (not (list_any (same_text p) (filter test ps))) (are_distinct (filter test ps))
+          (not_from_false (list_any (same_text p) (filter test ps)) (list_any-filter_none (same_text p) test ps (not-true (list_any (same_text p) ps) k.0))) rest
+      | inr c ↦ ap are_distinct (filter_dropped_one test p ps c) ∙ rest
+    ]

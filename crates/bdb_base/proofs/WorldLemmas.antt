@@ -6,15 +6,17 @@ use Rattle.bdb_base.specs.declared.kinds.Sign.{Sign}
 use Rattle.bdb_base.specs.declared.kinds.Sign.TheVariants.{Plus, Minus}
 use Rattle.bdb_base.specs.declared.kinds.Stmt.{Stmt}
 use Rattle.bdb_base.specs.declared.tuple.Tuple.{Tuple}
-use Rattle.bdb_base.specs.Bases.{key_lengths}
+use Rattle.bdb_base.specs.Bases.{key_lengths, stands}
 use Rattle.bdb_base.specs.Clash.{clash, same_key, key_of}
 use Rattle.bdb_base.specs.Laws.{WorldsAreConsistent, ValidIsConsistent, PlainInheritance, HasRival, NegationsAreBelieved}
-use Rattle.bdb_base.specs.Same.{same_tuple, same_path, same_sign, same_values}
+use Rattle.bdb_base.specs.Same.{same_tuple, same_path, same_sign, same_values, same_statement}
 use Rattle.bdb_base.specs.Segments.{is_prefix}
 use Rattle.bdb_base.specs.States.{is_state}
 use Rattle.bdb_base.specs.Worlds.{explicit, contradicted, stated}
 use Rattle.bdb_base.specs.SameLemmas.{same_tuple-Decides, same_path-Decides, same_sign-Decides, same_values-Decides}
+use Rattle.bdb_base.specs.OrderLemmas.{is_eq_statement_cmp}
 use Rattle.bdb_base.proofs.ClashLemmas.{clash_is_symmetric}
+use Rattle.bdb_base.proofs.BoolLemmas.{and_true}
 
 -- what a weaker test finds too
 pub list_any_weaker : {X : Type 0} (p q : X → Bool) → ((x : X) → p x ≡ true → q x ≡ true) → (xs : List X) → list_any p xs ≡ true → list_any q xs ≡ true
@@ -114,10 +116,6 @@ plain_inheritance keys stmts (i ∷ w) h t s =
     let b : contradicted keys stmts (i ∷ w) t s ≡ false = nothing_stands stmts i w (λ x. clash keys t s x.tuple x.sign) h in
     ap (λ c. c || (stated keys stmts w t s && not (contradicted keys stmts (i ∷ w) t s))) a
     ∙ ap (λ c. stated keys stmts w t s && not c) b ∙ and_true (stated keys stmts w t s)
-  where
-    and_true : (b : Bool) → (b && true) ≡ b
-    and_true true = refl
-    and_true false = refl
 
 -- what is explicit is of a statement's tuple
 pub explicit_tuple : (stmts : List Stmt) (w : List ℕ) (t : Tuple) (s : Sign) → explicit stmts w t s ≡ true → list_any (λ x. same_tuple x.tuple t) stmts ≡ true
@@ -176,3 +174,11 @@ negations_are_believed keys stmts w t = (
         stmts (stated_tuples_are_explicit keys stmts w r.0 Plus r.4))
   ]),
 )
+
+pub stands_is_explicit : (stmts : List Stmt) (x : Stmt) → stands stmts x ≡ explicit stmts x.path x.tuple x.sign
+stands_is_explicit [] x = refl
+stands_is_explicit (y ∷ ys) x = ap (λ b. b || stands ys x) (is_eq_statement_cmp y x) ∙ ap (λ b. same_statement y x || b) (stands_is_explicit ys x)
+
+pub explicit_is_stated : (keys : ℕ → ℕ) (stmts : List Stmt) (w : List ℕ) (t : Tuple) (s : Sign) → explicit stmts w t s ≡ true → stated keys stmts w t s ≡ true
+explicit_is_stated keys stmts [] t s e = e
+explicit_is_stated keys stmts (i ∷ w) t s e = or_left (explicit stmts (i ∷ w) t s) _ e

@@ -70,6 +70,11 @@ is_clean text = is_utf8 text && list_all (λ c. nat_le 32 c) text
 abbrev pub is_plain : List ℕ → Bool
 is_plain text = nat_le (length text) longest_text && is_clean text
 
+-- a value is one that tuples may have: a text has to be plain
+abbrev pub is_written : Value → Bool
+is_written (Int n) = true
+is_written (Text t) = is_plain t
+
 -- a value is of a kind; a text is a plain one
 abbrev pub fits_kind : Kind → Value → Bool
 fits_kind kind.Int (Int n) = true

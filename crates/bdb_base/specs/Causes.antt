@@ -18,6 +18,10 @@ Rises n before now = now < 2 ^ 64 - 1 → now ≡ before + n
 abbrev pub RisesOver : ℕ → ℕ → ℕ → Type 0
 RisesOver n before now = now < 2 ^ 64 - 1 → before + n < now
 
+-- a count rises by n at most, unless it stands at the end of its type
+abbrev pub RisesWithin : ℕ → ℕ → ℕ → Type 0
+RisesWithin most before now = (n : ℕ) × (n ≤ most) × Rises n before now
+
 -- the count of faults never falls, and it rose where this error is answered
 pub record HasCause {T E : Type 0} (before now : ℕ) (result : Result T E) (fault : E) : Type 0 where
   pub later : before ≤ now

@@ -86,12 +86,12 @@ statement_total = then_total (on_total (λ (x : Stmt). x.path) path_total)
 
 -- ---- Equal is the test of equality
 
-is_eq-then : (p q : Ordering) → is_eq (ordering_then p q) ≡ (is_eq p && is_eq q)
+pub is_eq-then : (p q : Ordering) → is_eq (ordering_then p q) ≡ (is_eq p && is_eq q)
 is_eq-then Less q = refl
 is_eq-then Equal q = refl
 is_eq-then Greater q = refl
 
-is_eq_nat_cmp : (m n : ℕ) → is_eq (nat_cmp m n) ≡ nat_eq m n
+pub is_eq_nat_cmp : (m n : ℕ) → is_eq (nat_cmp m n) ≡ nat_eq m n
 is_eq_nat_cmp m n = grind (arith, nat_tests)
 
 pub is_eq_value_cmp : (a b : Value) → is_eq (value_cmp a b) ≡ same_value a b

@@ -151,3 +151,7 @@ operand_columns (Lit v) = []
 abbrev pub first_there : {X : Type 0} → Option X → Option X → Option X
 first_there (Some x) more = Some x
 first_there None more = more
+
+-- an item's column
+abbrev pub column : ℕ → ℕ → Ref
+column item col = record { item = item; col = col }

@@ -1,5 +1,5 @@
 -- Texts of values, as replies and printed commands write them.
-use Rattle.std.specs.Prelude.{ℕ, ◌==◌, List, [], ◌∷◌, ◌++◌, if◌then◌else◌, codes, Option, Some, None, ℤ}
+use Rattle.std.specs.Prelude.{ℕ, ◌==◌, List, [], ◌∷◌, ◌++◌, if◌then◌else◌, codes, Option, Some, None, ℤ, unwrap_or}
 use Rattle.std.specs.List.{flat_map}
 use Rattle.std.specs.Fmt.{signed_decimal}
 use Rattle.bdb_base.specs.declared.kinds.Cmp.{Cmp}
@@ -9,6 +9,8 @@ use Rattle.bdb_base.specs.declared.kinds.Kind.{Kind}
 use Rattle.bdb_base.specs.declared.kinds.Kind.TheVariants as kind
 use Rattle.bdb_base.specs.declared.kinds.Value.{Value}
 use Rattle.bdb_base.specs.declared.kinds.Value.TheVariants.{Int, Text}
+use Rattle.bdb_base.specs.declared.kinds.Catalog.{Catalog}
+use Rattle.bdb_base.specs.Queries.{user_name}
 
 -- an integer: its decimal digits, with a dash in front where it is negative
 abbrev pub int_text : ℤ → List ℕ
@@ -64,3 +66,7 @@ line text = text ++ 10 ∷ []
 abbrev pub named_column : Option (List ℕ) → List ℕ → List ℕ
 named_column None col = col
 named_column (Some alias) col = dotted alias col
+
+-- the name of a live user, by his number; empty where there is none
+abbrev pub user_text : Catalog → ℕ → List ℕ
+user_text catalog uid = unwrap_or (user_name catalog.users uid) []

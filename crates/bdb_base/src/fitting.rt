@@ -1,7 +1,7 @@
 // Whether texts are plain, and values fit the columns of a relation.
 ghost use Rattle.std.specs.Prelude.{◌≡◌, nat_le};
 ghost use Rattle.std.specs.List.{list_all, slice_get};
-ghost use Rattle.bdb_base.specs.Bases.{is_plain, fits_kind, fits_columns, fits_definition};
+ghost use Rattle.bdb_base.specs.Bases.{is_plain, is_written, fits_kind, fits_columns, fits_definition};
 
 use crate::kinds::{ColDef, Kind, RelDef, Value};
 use crate::limits::LONGEST_TEXT;
@@ -44,6 +44,16 @@ pub fn is_plain(text: &Txt) -> bool
     ensures { result ≡ is_plain text.now }
 {
     text.len() <= LONGEST_TEXT && are_printable(text.as_str().as_bytes())
+}
+
+/// Whether a value is one that tuples may have: a text has to be plain.
+pub fn is_written(value: &Value) -> bool
+    ensures { result ≡ is_written value.now }
+{
+    match value {
+        Value::Int(_) => true,
+        Value::Text(text) => is_plain(text),
+    }
 }
 
 /// Whether no byte is one of a character below U+0020.

@@ -31,7 +31,7 @@ pub use changes::changed;
 pub use conditions::{compares, meets};
 pub use conflict::{clash, key_length, key_of, same_key, same_tuple, same_value, same_values};
 pub use counts::distinct_tuples;
-pub use fitting::{are_printable, fits_relation, is_plain};
+pub use fitting::{are_printable, fits_relation, is_plain, is_written};
 pub use kinds::{
     Catalog, Cmp, ColDef, Cond, Held, Item, Kind, Operand, Query, Ref, RelDef, SetCol, Sign, Stmt,
     UserSlot, Value, What, Who, World,

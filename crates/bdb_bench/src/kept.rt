@@ -4,7 +4,8 @@ ghost use Rattle.bdb_base.specs.Causes.{HasCause};
 ghost use Rattle.bdb_keep.specs.Seen.{Steps};
 
 use crate::{key_of, micros, ordered_key};
-use bdb_keep::{KeepError, Keeper, QuietKeeper};
+use bdb_keep::{KeepError, Keeper};
+use bdb_memory::QuietKeeper;
 use std::alloc::Global;
 use std::io;
 use std::time::Instant;

@@ -12,8 +12,9 @@ use Rattle.bdb_base.specs.declared.kinds.Query.{Query}
 use Rattle.bdb_base.specs.declared.kinds.Ref.{Ref}
 use Rattle.bdb_base.specs.Queries.{option_list}
 use Rattle.bdb_base.specs.Safety.{is_given, same_column, is_equality, is_column, is_literal, pins, links, IsBound}
+use Rattle.bdb_base.proofs.ConditionLemmas.{same_column_is, column_is}
 use Rattle.bdb_bind.specs.Safe.{is_known, is_known_side, unknown_side, unknown_of_two, made_known, next_known, known_after, bound_columns, TestTellsBound}
-use Rattle.bdb_bind.proofs.ColumnLemmas.{same_column_equal, column_is, linked_left, linked_right, pinned_left}
+use Rattle.bdb_bind.proofs.ColumnLemmas.{linked_left, linked_right, pinned_left}
 use Rattle.bdb_bind.proofs.KnownLemmas.{Makes, made, nothing_left}
 
 -- ---- what is known is bound
@@ -69,7 +70,7 @@ more_bound_with q known (Some s) bound e = λ (r : Ref) (there : list_any (same_
     elim (or_cases (list_any (same_column r) known) (same_column r s || false) (sym (list_any-append (same_column r) known (s ∷ [])) ∙ there)) [
       | inl before ↦ bound r before
       | inr last ↦ elim (or_cases (same_column r s) false last) [
-        | inl same ↦ subst (IsBound q) (sym (same_column_equal r s same)) (next_bound q known q.conds s bound (λ (c : Cond) (one : IsOneOf c q.conds). one) e)
+        | inl same ↦ subst (IsBound q) (sym (same_column_is r s same)) (next_bound q known q.conds s bound (λ (c : Cond) (one : IsOneOf c q.conds). one) e)
         | inr never ↦ cc
       ]
     ]
@@ -139,7 +140,7 @@ pinned_known q known r none some =
     let c = one.cond in
     let parts = and_parts (is_equality c.cmp) (same_column r c.left && is_literal c.right) one.passes in
     let sides = and_parts (same_column r c.left) (is_literal c.right) parts.1 in
-    ap (is_known q.items known) (same_column_equal r c.left sides.0)
+    ap (is_known q.items known) (same_column_is r c.left sides.0)
     ∙ left_known q.items known c one.idle parts.0 (literal_known q.items known c.right sides.1)
 
 linked_known : (q : Query) (known : List Ref) (r s : Ref) → next_known q.items known q.conds ≡ None → list_any (links r s) q.conds ≡ true
@@ -150,10 +151,10 @@ linked_known q known r s none some there =
     let parts = and_parts (is_equality c.cmp) ((same_column r c.left && is_column s c.right) || (same_column s c.left && is_column r c.right)) one.passes in
     elim (or_cases (same_column r c.left && is_column s c.right) (same_column s c.left && is_column r c.right) parts.1) [
       | inl forth ↦ let sides = and_parts (same_column r c.left) (is_column s c.right) forth in
-          ap (is_known q.items known) (same_column_equal r c.left sides.0)
+          ap (is_known q.items known) (same_column_is r c.left sides.0)
           ∙ left_known q.items known c one.idle parts.0 (ap (is_known_side q.items known) (column_is s c.right sides.1) ∙ there)
       | inr back ↦ let sides = and_parts (same_column s c.left) (is_column r c.right) back in
-          right_known q.items known c r one.idle parts.0 (column_is r c.right sides.1) (sym (ap (is_known q.items known) (same_column_equal s c.left sides.0)) ∙ there)
+          right_known q.items known c r one.idle parts.0 (column_is r c.right sides.1) (sym (ap (is_known q.items known) (same_column_is s c.left sides.0)) ∙ there)
     ]
 
 bound_known : (q : Query) (known : List Ref) {r : Ref} → next_known q.items known q.conds ≡ None → IsBound q r → is_known q.items known r ≡ true

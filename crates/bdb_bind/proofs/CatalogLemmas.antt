@@ -1,7 +1,7 @@
 -- What a valid catalog gives of the names that are found in it.
-use Rattle.std.proofs.Common.{◌≡◌, ◌∙◌, ℕ, ℤ, pos, unsigned_abs, int_lt, ◌^◌, ◌<◌, ◌≤◌, zero, suc, Bool, true, ◌&&◌, nat_lt, nat_le, List, [], ◌∷◌, length, Option, Some, None, find, sym, ap, subst, inl, inr, arith}
+use Rattle.std.proofs.Common.{◌≡◌, ◌∙◌, ℕ, ℤ, pos, unsigned_abs, int_lt, ◌^◌, ◌<◌, ◌≤◌, true, ◌&&◌, nat_lt, nat_le, List, [], ◌∷◌, length, Option, Some, None, find, sym, ap, subst, inl, inr, arith}
 use Rattle.std.specs.Option.{is_some, option_and_then, IfSome}
-use Rattle.std.specs.List.{list_all, slice_get}
+use Rattle.std.specs.List.{list_all}
 use Rattle.std.proofs.lemmas.Bool.{cases_Bool, and_parts, cond-true, cond-false, leb-true, ltb-true, eqb-true, not-false}
 use Rattle.bdb_base.specs.declared.kinds.Catalog.{Catalog}
 use Rattle.bdb_base.specs.declared.kinds.RelDef.{RelDef}
@@ -11,12 +11,14 @@ use Rattle.bdb_base.specs.Alternation.{alternates}
 use Rattle.bdb_base.specs.Bases.{IsCatalog, is_valid_relation}
 use Rattle.bdb_base.specs.Same.{same_text}
 use Rattle.bdb_base.specs.Queries.{columns_of_definition}
+use Rattle.bdb_base.proofs.ListLemmas.{list_all_get}
+use Rattle.bdb_base.proofs.OptionLemmas.{some_of}
 use Rattle.bdb_syntax.specs.declared.command.Command.{Command}
 use Rattle.bdb_bind.specs.Lookup.{number_of, columns_of, path_of}
 use Rattle.bdb_bind.specs.Parts.{path_names, new_columns, new_key, relation_name, tuple_values, relation_place, columns_for, change_columns}
 use Rattle.bdb_bind.specs.Lines.{unknown_relation, relation_line, values_arity, arity_line}
 use Rattle.bdb_bind.specs.Refusal.{names_refused}
-use Rattle.bdb_bind.proofs.Founds.{IsFound, found, is_there}
+use Rattle.bdb_bind.proofs.Founds.{IsFound, found}
 use Rattle.bdb_bind.proofs.PathLemmas.{path_alternates}
 use Rattle.bdb_bind.proofs.Cleared.{cleared, neither, few_columns, key_told, users_known, names_apart, not_refused}
 
@@ -25,12 +27,6 @@ users_few c valid = leb-true (length c.users) most_users valid.few_users
 
 pub relations_few : (c : Catalog) → IsCatalog c → length c.rels ≤ most_relations
 relations_few c valid = leb-true (length c.rels) 64 valid.few_rels
-
-pub all_at : {X : Type 0} (p : X → Bool) (xs : List X) (at : ℕ) (x : X) → list_all p xs ≡ true → slice_get xs at ≡ Some x → p x ≡ true
-all_at p [] at x all there = cc
-all_at p (y ∷ ys) zero x all there =
-    let here = and_parts (p y) (list_all p ys) all in let same : y ≡ x = cc in ap p (sym same) ∙ here.0
-all_at p (y ∷ ys) (suc at) x all there = all_at p ys at x (and_parts (p y) (list_all p ys) all).1 there
 
 -- a valid relation has a column, and not too many
 pub columns_within : (def : RelDef) → is_valid_relation def ≡ true → (0 < length def.cols) × (length def.cols ≤ most_columns)
@@ -55,7 +51,7 @@ columns_few c name valid = few_of c.rels name valid.rels_valid
 -- the relation of a name that is found, and its number
 pub relation_found : (c : Catalog) (name : List ℕ) → is_some (number_of c.rels name) ≡ true
     → (n : ℕ) × (number_of c.rels name ≡ Some n) × IsFound (λ r. same_text r.name name) 0 c.rels n
-relation_found c name known = let w = is_there (number_of c.rels name) known in (w.0, w.1, found _ 0 c.rels w.0 w.1)
+relation_found c name known = let w = some_of (number_of c.rels name) known in (w.0, w.1, found _ 0 c.rels w.0 w.1)
 
 -- the path of a command that isn't refused alternates
 pub accepted_alternates : (catalog : Catalog) (c : Command) (names : List (List ℕ)) → names_refused catalog c ≡ None → names ≡ path_names c
@@ -98,7 +94,7 @@ pub values_filled : (catalog : Catalog) (c : Command) (rel : List ℕ) (vals : L
 values_filled catalog c rel vals valid named valued accepted =
     let clear = cleared catalog c accepted in
     let w = relation_found catalog rel (named_relation catalog c rel named clear.relation) in
-    let many = (columns_within w.2.item (all_at is_valid_relation catalog.rels w.2.at w.2.item valid.rels_valid w.2.there)).0 in
+    let many = (columns_within w.2.item (list_all_get is_valid_relation catalog.rels w.2.at w.2.item valid.rels_valid w.2.there)).0 in
     let same : columns_of catalog.rels rel ≡ w.2.item.cols = ap columns_of_definition w.2.first in
     let counted = values_counted catalog c rel vals named valued clear.arity in
     omega (arith, ap length same)

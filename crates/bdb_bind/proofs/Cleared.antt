@@ -1,9 +1,9 @@
 -- What holds of a command that no reason refuses.
 use Rattle.std.proofs.Common.{◌≡◌, ◌∙◌, ◌≤◌, ℤ, Bool, true, false, length, Option, Some, None, refl, ap}
-use Rattle.std.specs.Option.{option_map}
 use Rattle.std.specs.List.{list_all}
 use Rattle.std.proofs.lemmas.Bool.{ltb-false, not-false}
 use Rattle.bdb_base.specs.declared.kinds.Catalog.{Catalog}
+use Rattle.bdb_base.proofs.OptionLemmas.{nothing_mapped}
 use Rattle.bdb_syntax.specs.declared.command.Command.{Command}
 use Rattle.bdb_bind.specs.declared.bound.BindError.{BindError}
 use Rattle.bdb_bind.specs.Lookup.{is_user_name}
@@ -36,10 +36,6 @@ neither (Some x) b e = cc
 pub not_refused : (t : Bool) (e : BindError) → refused_if t e ≡ None → t ≡ false
 not_refused true e h = cc
 not_refused false e h = refl
-
-pub nothing_mapped : {A B : Type 0} (f : A → B) (o : Option A) → option_map f o ≡ None → o ≡ None
-nothing_mapped f None e = refl
-nothing_mapped f (Some x) e = cc
 
 -- neither the names nor the safety are refused
 pub both_accepted : (catalog : Catalog) (c : Command) → refusal_of catalog c ≡ None → (names_refused catalog c ≡ None) × (unsafe_line catalog c ≡ None)

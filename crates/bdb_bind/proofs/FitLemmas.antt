@@ -15,6 +15,8 @@ use Rattle.bdb_base.specs.declared.kinds.Value.TheVariants.{Int, Text}
 use Rattle.bdb_base.specs.Same.{same_text, same_kind}
 use Rattle.bdb_base.specs.Bases.{is_clean, is_plain, fits_kind, fits_columns, are_distinct, user_names}
 use Rattle.bdb_base.specs.Safety.{one_kind}
+use Rattle.bdb_base.proofs.OptionLemmas.{some_of}
+use Rattle.bdb_base.proofs.SegmentLemmas.{same_text_is, same_text_itself}
 use Rattle.bdb_syntax.specs.declared.command.Command.{Command}
 use Rattle.bdb_syntax.specs.declared.command.RawCond.{RawCond}
 use Rattle.bdb_syntax.specs.declared.command.RawSide.{RawSide}
@@ -26,7 +28,7 @@ use Rattle.bdb_bind.specs.Kinds.{kind_of}
 use Rattle.bdb_bind.specs.Lines.{first_repeated, misfit, side_kind, fits_set, fits_cond}
 use Rattle.bdb_bind.specs.Binding.{place_of, bound_side, bound_cond, bound_set}
 use Rattle.bdb_bind.specs.Fits.{is_unclean, fits_path, fits_found, set_fits, kind_of_place, side_fits, cond_fits}
-use Rattle.bdb_bind.proofs.Founds.{found, is_there, same_text_equal, same_text_itself}
+use Rattle.bdb_bind.proofs.Founds.{found}
 use Rattle.bdb_bind.proofs.PathLemmas.{path_users, path_alternates, path_length}
 use Rattle.bdb_bind.proofs.Cleared.{IsCleared, users_known, names_apart, not_deep}
 
@@ -63,7 +65,7 @@ pub record IsColumn (cols : List ColDef) (name : List ℕ) : Type 0 where
 
 pub column_found : (cols : List ColDef) (name : List ℕ) → has_column cols name ≡ true → IsColumn cols name
 column_found cols name known =
-    let w = is_there (column_at cols name) known in
+    let w = some_of (column_at cols name) known in
     let f = found (λ c. same_text c.name name) 0 cols w.0 w.1 in
     let place : place_of cols name ≡ f.at = ap (λ o. unwrap_or o 0) w.1 ∙ f.place ∙ zero-add f.at in
     record { item = f.item; there = ap (slice_get cols) place ∙ f.there; kind = ap (option_map (λ c. c.kind)) f.first }
@@ -151,10 +153,6 @@ none_called (Live x ∷ us) name none =
     or_from (same_text x name) (list_any (λ y. same_text y name) (user_names us)) parts.0 (none_called us name parts.1)
 none_called (Gone ∷ us) name none = none_called us name none
 
-pub any_mapped : {X Y : Type 0} (p : Y → Bool) (f : X → Y) (xs : List X) → list_any p (map f xs) ≡ list_any (λ x. p (f x)) xs
-any_mapped p f [] = refl
-any_mapped p f (x ∷ xs) = ap (λ b. p (f x) || b) (any_mapped p f xs)
-
 pub distinct_with : (names : List (List ℕ)) (name : List ℕ) → are_distinct names ≡ true → list_any (λ x. same_text x name) names ≡ false
     → are_distinct (names ++ name ∷ []) ≡ true
 distinct_with [] name distinct apart = refl
@@ -167,7 +165,7 @@ distinct_with (n ∷ ns) name distinct apart =
 
 pub differs_turned : (a b : List ℕ) → same_text a b ≡ false → same_text b a ≡ false
 differs_turned a b apart = elim (cases_Bool (same_text b a)) [
-  | inl same ↦ let turned = ap (λ x. same_text x b) (sym (same_text_equal b a same)) ∙ same_text_itself b in cc
+  | inl same ↦ let turned = ap (λ x. same_text x b) (sym (same_text_is b a same)) ∙ same_text_itself b in cc
   | inr other ↦ other
 ]
 

@@ -12,6 +12,8 @@ use Rattle.bdb_base.specs.declared.kinds.Value.{Value}
 use Rattle.bdb_base.specs.Same.{same_text}
 use Rattle.bdb_base.specs.Bases.{IsCatalog, is_plain, fits_columns, fits_relation, are_distinct, is_user, user_names, users_name}
 use Rattle.bdb_base.specs.Queries.{columns_of_definition}
+use Rattle.bdb_base.proofs.CountLemmas.{list_any-map}
+use Rattle.bdb_base.proofs.OptionLemmas.{nothing_mapped}
 use Rattle.bdb_syntax.specs.declared.command.Command.{Command}
 use Rattle.bdb_syntax.specs.declared.command.Command.TheVariants.{CreateUser, DropUser, CreateRelation, Insert, Delete, Update, Select, Explain, ShowWorld, Why, ShowTables, Undo, Redo}
 use Rattle.bdb_syntax.specs.declared.command.RawCond.{RawCond}
@@ -26,11 +28,11 @@ use Rattle.bdb_bind.specs.QueryLines.{query_items, query_relation, query_user, q
 use Rattle.bdb_bind.specs.Refusal.{unsafe_line, refusal_of}
 use Rattle.bdb_bind.specs.Fits.{can_be_answered, is_unclean, names_allowed, is_allowed, set_fits, cond_fits, columns_numbered, fits_catalog, WhatIsBoundFits}
 use Rattle.bdb_bind.proofs.Founds.{all_pass}
-use Rattle.bdb_bind.proofs.Cleared.{IsCleared, cleared, both_accepted, neither, not_refused, nothing_mapped, no_long_text, few_columns, key_told, users_known}
+use Rattle.bdb_bind.proofs.Cleared.{IsCleared, cleared, both_accepted, neither, not_refused, no_long_text, few_columns, key_told, users_known}
 use Rattle.bdb_bind.proofs.CatalogLemmas.{relation_found, named_relation, values_counted}
 use Rattle.bdb_bind.proofs.PathLemmas.{uid_is_user}
 use Rattle.bdb_bind.proofs.QueryFitting.{IsClearQuery, clear_query_fits}
-use Rattle.bdb_bind.proofs.FitLemmas.{plain_text, path_fits, values_fit, sets_fit, conds_fit, none_among, none_called, any_mapped, distinct_with, none_repeated}
+use Rattle.bdb_bind.proofs.FitLemmas.{plain_text, path_fits, values_fit, sets_fit, conds_fit, none_among, none_called, distinct_with, none_repeated}
 
 -- the relation of a name, by its number
 record IsRelation (catalog : Catalog) (name : List ℕ) : Type 0 where
@@ -156,7 +158,7 @@ new_relation_fits catalog name cols key valid allowed clear =
     let own = and_from (is_plain name) (not (same_text name users_name)) plain.0 (not_from_false (same_text name users_name) free.1) in
     let columns = and_from (are_distinct (map (λ c. c.name) cols)) (list_all (λ c. is_plain c.name) cols) apart.distinct plain.1 in
     let others : list_any (λ x. same_text x name) (map (λ r. r.name) catalog.rels) ≡ false =
-    any_mapped (λ x. same_text x name) (λ r. r.name) catalog.rels ∙ none_among (λ r. same_text r.name name) 0 catalog.rels free.0 in
+    list_any-map (λ x. same_text x name) (λ r. r.name) catalog.rels ∙ none_among (λ r. same_text r.name name) 0 catalog.rels free.0 in
     and_from _ _ (and_from _ _ counts (and_from _ _ (and_from _ _ columns own) (has_key name cols key some.0 clear.key)))
     (ap are_distinct (map-append (λ r. r.name) catalog.rels (record { name = name; cols = cols; key = key_length key } ∷ []))
     ∙ distinct_with (map (λ r. r.name) catalog.rels) name valid.rels_differ others)

@@ -7,11 +7,11 @@ use Rattle.bdb_base.specs.declared.kinds.UserSlot.{UserSlot}
 use Rattle.bdb_base.specs.declared.kinds.UserSlot.TheVariants.{Live, Gone}
 use Rattle.bdb_base.specs.Bases.{are_distinct, user_names}
 use Rattle.bdb_base.specs.Same.{same_text}
-use Rattle.bdb_base.proofs.UserLemmas.{name_found, named_at}
+use Rattle.bdb_base.proofs.UserLemmas.{name_found, named_at, apart_from}
+use Rattle.bdb_base.proofs.SegmentLemmas.{same_text_is}
 use Rattle.bdb_bind.specs.Indexes.{but_of, WhoLeavesIsForgotten}
 use Rattle.bdb_bind.specs.Lookup.{is_called}
 use Rattle.bdb_bind.proofs.FitLemmas.{differs_turned}
-use Rattle.bdb_bind.proofs.Founds.{same_text_equal}
 
 -- a name that none of the live users has isn't found
 not_found : (name : List ℕ) (start : ℕ) (users : List UserSlot) → list_any (same_text name) (user_names users) ≡ false → position_from (is_called name) start users ≡ None
@@ -21,20 +21,11 @@ not_found name start (Live x ∷ us) none =
     cond-false (same_text x name) (Some start) (position_from (is_called name) (start + 1) us) (differs_turned name x parts.0) ∙ not_found name (start + 1) us parts.1
 not_found name start (Gone ∷ us) none = not_found name (start + 1) us none
 
--- a name that stands at a place is none of which none is there
-apart : (n name : List ℕ) (users : List UserSlot) (at : ℕ) → list_any (same_text n) (user_names users) ≡ false → slice_get users at ≡ Some (Live name) → same_text n name ≡ false
-apart n name [] at none there = absurd (none-some (Live name) there)
-apart n name (Live m ∷ us) zero none there =
-    let same : m ≡ name = cc in ap (same_text n) (sym same) ∙ (or_parts (same_text n m) (list_any (same_text n) (user_names us)) none).0
-apart n name (Gone ∷ us) zero none there = cc
-apart n name (Live m ∷ us) (suc at) none there = apart n name us at (or_parts (same_text n m) (list_any (same_text n) (user_names us)) none).1 there
-apart n name (Gone ∷ us) (suc at) none there = apart n name us at none there
-
 -- where one who is called so goes
 he_goes : (name q : List ℕ) (start : ℕ) (us : List UserSlot) → list_any (same_text name) (user_names us) ≡ false
     → position_from (is_called q) (start + 1) us ≡ but_of (position_from (is_called q) start (Live name ∷ us)) name q
 he_goes name q start us none = elim (cases_Bool (same_text name q)) [
-  | inl same ↦ let one : name ≡ q = same_text_equal name q same in
+  | inl same ↦ let one : name ≡ q = same_text_is name q same in
       ap (λ x. position_from (is_called x) (start + 1) us) (sym one) ∙ not_found name (start + 1) us none
       ∙ sym (cond-true (same_text name q) None (position_from (is_called q) start (Live name ∷ us)) same)
   | inr other ↦ sym (cond-false (same_text name q) None (position_from (is_called q) start (Live name ∷ us)) other
@@ -46,7 +37,7 @@ one_before : (n name q : List ℕ) (start : ℕ) (now us : List UserSlot) → sa
     → position_from (is_called q) (start + 1) now ≡ but_of (position_from (is_called q) (start + 1) us) name q
     → position_from (is_called q) start (Live n ∷ now) ≡ but_of (position_from (is_called q) start (Live n ∷ us)) name q
 one_before n name q start now us differ rest = elim (cases_Bool (same_text n q)) [
-  | inl same ↦ let one : n ≡ q = same_text_equal n q same in
+  | inl same ↦ let one : n ≡ q = same_text_is n q same in
       let other : same_text name q ≡ false = ap (same_text name) (sym one) ∙ differs_turned n name differ in
       cond-true (same_text n q) (Some start) (position_from (is_called q) (start + 1) now) same
       ∙ sym (cond-false (same_text name q) None (position_from (is_called q) start (Live n ∷ us)) other
@@ -66,7 +57,7 @@ goes name q start (Gone ∷ us) zero differ there = cc
 goes name q start (Live n ∷ us) (suc at) differ there =
     let parts = and_parts (not (list_any (same_text n) (user_names us))) (are_distinct (user_names us)) differ in
     let none = not-true (list_any (same_text n) (user_names us)) parts.0 in
-    one_before n name q start (slice_set us at Gone) us (apart n name us at none there) (goes name q (start + 1) us at parts.1 there)
+    one_before n name q start (slice_set us at Gone) us (apart_from n name us at none there) (goes name q (start + 1) us at parts.1 there)
 goes name q start (Gone ∷ us) (suc at) differ there = goes name q (start + 1) us at differ there
 
 pub who_leaves_is_forgotten : WhoLeavesIsForgotten

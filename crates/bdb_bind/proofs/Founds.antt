@@ -1,12 +1,11 @@
 -- Names that are found in a list.
-use Rattle.std.proofs.Common.{◌≡◌, ◌∙◌, ℕ, ◌+◌, ◌<◌, suc, Bool, true, not, List, [], ◌∷◌, length, Option, Some, None, find, refl, sym, ap, inl, inr, arith}
-use Rattle.std.specs.Option.{is_some}
+use Rattle.std.proofs.Common.{◌≡◌, ◌∙◌, ℕ, ◌+◌, ◌<◌, suc, Bool, true, not, List, [], ◌∷◌, length, Some, None, find, refl, sym, ap, inl, inr, arith}
 use Rattle.std.specs.List.{position_from, slice_get, list_all}
 use Rattle.std.proofs.lemmas.Bool.{cases_Bool, cond-true, cond-false, and_from, not-false}
-use Rattle.std.proofs.lemmas.Slice.Eq.{bytes_eq-Decides}
 use Rattle.bdb_base.specs.declared.kinds.UserSlot.{UserSlot}
 use Rattle.bdb_base.specs.declared.kinds.UserSlot.TheVariants.{Live, Gone}
 use Rattle.bdb_base.specs.Same.{same_text}
+use Rattle.bdb_base.proofs.SegmentLemmas.{same_text_is, same_text_itself}
 use Rattle.bdb_bind.specs.Lookup.{is_called, uid_of}
 
 -- what is found at a place: an item that passes, the first that does
@@ -37,11 +36,6 @@ found p start (x ∷ xs) k e = elim (cases_Bool (p x)) [
       }
 ]
 
--- a value that is there
-pub is_there : {X : Type 0} (o : Option X) → is_some o ≡ true → (x : X) × (o ≡ Some x)
-is_there None e = cc
-is_there (Some x) e = (x, refl)
-
 -- where no item fails, all pass
 pub all_pass : {X : Type 0} (p : X → Bool) (xs : List X) → find (λ x. not (p x)) xs ≡ None → list_all p xs ≡ true
 all_pass p [] e = refl
@@ -51,15 +45,9 @@ all_pass p (x ∷ xs) e = elim (cases_Bool (not (p x))) [
       (all_pass p xs (sym (cond-false (not (p x)) (Some x) (find (λ y. not (p y)) xs) passes) ∙ e))
 ]
 
-pub same_text_itself : (a : List ℕ) → same_text a a ≡ true
-same_text_itself a = (bytes_eq-Decides a a).1 refl
-
-pub same_text_equal : (a b : List ℕ) → same_text a b ≡ true → a ≡ b
-same_text_equal a b e = (bytes_eq-Decides a b).0 e
-
 -- the place of one who is called so is his
 pub called_so : (name : List ℕ) (slot : UserSlot) → is_called name slot ≡ true → slot ≡ Live name
-called_so name (Live x) called = ap Live (same_text_equal x name called)
+called_so name (Live x) called = ap Live (same_text_is x name called)
 called_so name Gone called = cc
 
 -- two names that have one uid are one

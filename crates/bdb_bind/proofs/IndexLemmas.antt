@@ -8,9 +8,9 @@ use Rattle.bdb_base.specs.declared.kinds.RelDef.{RelDef}
 use Rattle.bdb_base.specs.declared.kinds.UserSlot.{UserSlot}
 use Rattle.bdb_base.specs.declared.kinds.UserSlot.TheVariants.{Live, Gone}
 use Rattle.bdb_base.specs.Same.{same_text}
+use Rattle.bdb_base.proofs.SegmentLemmas.{same_text_is}
 use Rattle.bdb_bind.specs.Indexes.{or_place, or_slot, user_place}
 use Rattle.bdb_bind.specs.Lookup.{is_called, number_of}
-use Rattle.bdb_bind.proofs.Founds.{same_text_equal}
 
 pushed : {X : Type 0} (p : X → Bool) (start : ℕ) (xs : List X) (x : X) (n : ℕ) → n ≡ start + length xs
     → position_from p start (xs ++ x ∷ []) ≡ option_or (position_from p start xs) (cond (p x) (Some n) None)
@@ -50,7 +50,7 @@ relations_more rels at x q below item = place_more (λ (r : RelDef). same_text r
 pub added : (told : List ℕ → Option ℕ) (name : List ℕ) (at : ℕ) (q : List ℕ) (new : Option ℕ) → told name ≡ None
     → new ≡ cond (same_text name q) (Some at) (told q) → new ≡ or_place (told q) name at q
 added told name at q new none e = elim (cases_Bool (same_text name q)) [
-  | inl same ↦ let one : name ≡ q = same_text_equal name q same in
+  | inl same ↦ let one : name ≡ q = same_text_is name q same in
       let before : told q ≡ None = ap told (sym one) ∙ none in
       e ∙ cond-true (same_text name q) (Some at) (told q) same
       ∙ sym (ap (λ o. option_or o (cond (same_text name q) (Some at) None)) before ∙ cond-true (same_text name q) (Some at) None same)

@@ -12,8 +12,8 @@ use Rattle.bdb_base.specs.declared.kinds.Operand.TheVariants.{Col, Lit}
 use Rattle.bdb_base.specs.declared.kinds.Ref.{Ref}
 use Rattle.bdb_base.specs.Queries.{option_list}
 use Rattle.bdb_base.specs.Safety.{is_given, same_column, is_equality}
+use Rattle.bdb_base.proofs.ConditionLemmas.{same_column_itself}
 use Rattle.bdb_bind.specs.Safe.{is_known, is_known_side, unknown_side, unknown_of_two, made_known, next_known, known_after}
-use Rattle.bdb_bind.proofs.ColumnLemmas.{same_column_itself}
 
 -- where nothing more is made known, further steps change nothing
 pub nothing_more : (items : List Item) (conds : List Cond) (known : List Ref) (steps : List Cond) → next_known items known conds ≡ None

@@ -11,11 +11,12 @@ use Rattle.bdb_base.specs.Bases.{live_name, name_at, is_user}
 use Rattle.bdb_bind.specs.Lookup.{is_called, uid_of, is_user_name, uid_at, path_of}
 use Rattle.bdb_bind.specs.Lines.{begins_with, has_repeat}
 use Rattle.bdb_base.proofs.UserLemmas.{user_at_place}
-use Rattle.bdb_bind.proofs.Founds.{found, is_there, called_so, one_name}
+use Rattle.bdb_base.proofs.OptionLemmas.{some_of}
+use Rattle.bdb_bind.proofs.Founds.{found, called_so, one_name}
 
 -- the uid of a user's name
 pub known_uid : (users : List UserSlot) (name : List ℕ) → is_user_name users name ≡ true → uid_of users name ≡ Some (uid_at users name)
-known_uid users name known = let w = is_there (uid_of users name) known in w.1 ∙ ap (λ o. Some (unwrap_or o 0)) (sym w.1)
+known_uid users name known = let w = some_of (uid_of users name) known in w.1 ∙ ap (λ o. Some (unwrap_or o 0)) (sym w.1)
 
 -- a known name is a live user's
 pub uid_is_user : (users : List UserSlot) (name : List ℕ) → is_user_name users name ≡ true → is_user users (uid_at users name) ≡ true

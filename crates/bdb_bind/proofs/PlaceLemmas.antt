@@ -9,15 +9,16 @@ use Rattle.bdb_base.specs.declared.kinds.UserSlot.TheVariants.{Live, Gone}
 use Rattle.bdb_base.specs.Bases.{are_distinct, user_names}
 use Rattle.bdb_base.specs.Same.{same_text}
 use Rattle.bdb_base.specs.Queries.{columns_of_definition}
+use Rattle.bdb_base.proofs.SegmentLemmas.{same_text_is}
 use Rattle.bdb_bind.specs.Lookup.{is_called, is_called_at, uid_of, is_name, number_of, columns_of}
-use Rattle.bdb_bind.proofs.Founds.{same_text_equal, found}
+use Rattle.bdb_bind.proofs.Founds.{found}
 
 -- a name of a list is among the names
 among : {X : Type 0} (f : X → List ℕ) (xs : List X) (at : ℕ) (name first : List ℕ) → is_name name (option_map f (slice_get xs at)) ≡ true → same_text first name ≡ true
     → list_any (same_text first) (map f xs) ≡ true
 among f [] at name first here same = cc
 among f (x ∷ xs) zero name first here same =
-    let one : f x ≡ name = same_text_equal (f x) name here in
+    let one : f x ≡ name = same_text_is (f x) name here in
     or_left _ _ (ap (same_text first) one ∙ same)
 among f (x ∷ xs) (suc at) name first here same = or_right _ _ (among f xs at name first here same)
 
@@ -41,7 +42,7 @@ stands_at f start (x ∷ xs) (suc at) name differ here =
 among_live : (users : List UserSlot) (at : ℕ) (name first : List ℕ) → is_called_at name (slice_get users at) ≡ true → same_text first name ≡ true
     → list_any (same_text first) (user_names users) ≡ true
 among_live [] at name first here same = cc
-among_live (Live x ∷ us) zero name first here same = or_left _ _ (ap (same_text first) (same_text_equal x name here) ∙ same)
+among_live (Live x ∷ us) zero name first here same = or_left _ _ (ap (same_text first) (same_text_is x name here) ∙ same)
 among_live (Gone ∷ us) zero name first here same = cc
 among_live (Live x ∷ us) (suc at) name first here same = or_right _ _ (among_live us at name first here same)
 among_live (Gone ∷ us) (suc at) name first here same = among_live us at name first here same

@@ -16,6 +16,7 @@ use Rattle.bdb_base.specs.Bases.{IsCatalog, is_plain}
 use Rattle.bdb_base.specs.Same.{same_text}
 use Rattle.bdb_base.specs.Queries.{columns_at, columns_of_definition}
 use Rattle.bdb_base.specs.Safety.{item_kinds, column_kind, literal_kind, operand_kind, one_kind, joins_one_kind, is_users_item, who_fits, begins_with_another, fixed_differ, item_fits, query_fits}
+use Rattle.bdb_base.proofs.OptionLemmas.{some_of}
 use Rattle.bdb_syntax.specs.declared.command.RawCol.{RawCol}
 use Rattle.bdb_syntax.specs.declared.command.RawCond.{RawCond}
 use Rattle.bdb_syntax.specs.declared.command.RawItem.{RawItem}
@@ -36,7 +37,7 @@ use Rattle.bdb_bind.specs.Scope.{is_users, item_place, item_of, user_columns, it
 use Rattle.bdb_bind.proofs.Cleared.{neither, not_refused}
 use Rattle.bdb_bind.proofs.CatalogLemmas.{relation_found}
 use Rattle.bdb_bind.proofs.FitLemmas.{column_found, plain_text}
-use Rattle.bdb_bind.proofs.Founds.{found, is_there, one_name}
+use Rattle.bdb_bind.proofs.Founds.{found, one_name}
 use Rattle.bdb_bind.proofs.PathLemmas.{known_uid, uid_is_user}
 use Rattle.bdb_bind.proofs.SafeLemmas.{catalog_few}
 
@@ -68,7 +69,7 @@ record IsItem (items : List RawItem) (alias : Option (List ℕ)) : Type 0 where
 item_named : (items : List RawItem) (alias : Option (List ℕ)) → is_some (item_place items alias) ≡ true → IsItem items alias
 item_named items None known = cc
 item_named items (Some a) known =
-    let w = is_there (item_place items (Some a)) known in
+    let w = some_of (item_place items (Some a)) known in
     let f = found (λ i. same_text i.alias a) 0 items w.0 w.1 in
     let place : place_named items (Some a) ≡ f.at = ap (λ o. unwrap_or o 0) w.1 ∙ f.place ∙ zero-add f.at in
     record { item = f.item; there = ap (slice_get items) place ∙ f.there; first = f.first }

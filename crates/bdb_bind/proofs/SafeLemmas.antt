@@ -9,13 +9,14 @@ use Rattle.bdb_base.specs.declared.kinds.RelDef.{RelDef}
 use Rattle.bdb_base.specs.Bases.{IsCatalog, is_valid_relation}
 use Rattle.bdb_base.specs.Queries.{columns_of_definition, columns_at}
 use Rattle.bdb_base.specs.Safety.{query_fits}
+use Rattle.bdb_base.proofs.ListLemmas.{list_all_get}
 use Rattle.bdb_syntax.specs.declared.command.Command.{Command}
 use Rattle.bdb_syntax.specs.declared.command.RawQuery.{RawQuery}
 use Rattle.bdb_bind.specs.Lines.{items_line}
 use Rattle.bdb_bind.specs.Parts.{query_of}
 use Rattle.bdb_bind.specs.QueryLines.{query_items}
 use Rattle.bdb_bind.specs.Refusal.{names_refused}
-use Rattle.bdb_bind.proofs.CatalogLemmas.{all_at, columns_within}
+use Rattle.bdb_bind.proofs.CatalogLemmas.{columns_within}
 use Rattle.bdb_bind.proofs.Cleared.{cleared, neither, not_refused}
 
 pub few_items : (c : Catalog) (q : Query) → query_fits c q ≡ true → length q.items < 2 ^ 32
@@ -28,7 +29,7 @@ few_columns_each c q fits =
 few_of_found : (rels : List RelDef) (rel : ℕ) (o : Option RelDef) → slice_get rels rel ≡ o → list_all (λ def. nat_lt (length def.cols) (2 ^ 32)) rels ≡ true
     → length (columns_of_definition o) < 2 ^ 32
 few_of_found rels rel None there few = omega arith
-few_of_found rels rel (Some def) there few = ltb-true (length def.cols) (2 ^ 32) (all_at (λ d. nat_lt (length d.cols) (2 ^ 32)) rels rel def few there)
+few_of_found rels rel (Some def) there few = ltb-true (length def.cols) (2 ^ 32) (list_all_get (λ d. nat_lt (length d.cols) (2 ^ 32)) rels rel def few there)
 
 pub few_columns_at : (rels : List RelDef) (rel : ℕ) → list_all (λ def. nat_lt (length def.cols) (2 ^ 32)) rels ≡ true → length (columns_at rels rel) < 2 ^ 32
 few_columns_at rels rel few = few_of_found rels rel (slice_get rels rel) refl few

@@ -1,6 +1,6 @@
 -- The test of safety tells exactly the safe queries.
 use Rattle.std.proofs.Common.{◌≡◌, ◌∙◌, ℕ, ◌+◌, zero, suc, true, List, [], ◌∷◌, map, Option, Some, None, refl, sym, ap, inl, inr, arith, zero-add}
-use Rattle.std.specs.Option.{option_or, option_map, option_and_then, is_some, is_none}
+use Rattle.std.specs.Option.{option_or, option_and_then, is_some, is_none}
 use Rattle.std.specs.List.{slice_get}
 use Rattle.std.proofs.lemmas.Bool.{cases_Bool, cond-true, cond-false}
 use Rattle.std.proofs.lemmas.Option.{slice_get-map}
@@ -13,6 +13,7 @@ use Rattle.bdb_base.specs.declared.kinds.RelDef.{RelDef}
 use Rattle.bdb_base.specs.declared.kinds.Sign.TheVariants.{Plus, Minus}
 use Rattle.bdb_base.specs.Queries.{columns_at}
 use Rattle.bdb_base.specs.Safety.{item_kinds, column_kind, is_minus, IsMinusColumn, IsSafe}
+use Rattle.bdb_base.proofs.OptionLemmas.{some_mapped}
 use Rattle.bdb_bind.specs.Safe.{is_known, bound_columns, unbound_from, unbound_of, unbound_among, first_unbound, is_safe, TestTellsSafe}
 use Rattle.bdb_bind.proofs.BoundLemmas.{test_tells_bound}
 
@@ -76,10 +77,6 @@ none_among_items rels items known at (x ∷ xs) all =
     (λ (n : ℕ) (i : Item) (there : slice_get xs n ≡ Some i). item_at rels items known (at + suc n) (at + 1 + n) i (omega arith) (all (suc n) i there))
 
 -- ---- minus columns
-
-some_mapped : {X Y : Type 0} (f : X → Y) (o : Option X) → is_some (option_map f o) ≡ is_some o
-some_mapped f None = refl
-some_mapped f (Some x) = refl
 
 -- a column that has a kind is there
 kind_there : (cols : List ColDef) (k : ℕ) → is_some (slice_get (map (λ c. c.kind) cols) k) ≡ is_some (slice_get cols k)

@@ -20,7 +20,7 @@ use Rattle.bdb_base.specs.SortedSet.{IsExactOrder, is_member}
 use Rattle.bdb_base.specs.States.{edge_target, states_of}
 use Rattle.bdb_base.specs.WorldRows.{row_at, rows_at, tuples_of, world_of}
 use Rattle.bdb_base.specs.Worlds.{explicit, stated}
-use Rattle.bdb_base.proofs.ListLemmas.{list_all_weaker}
+use Rattle.bdb_base.proofs.ListLemmas.{list_all_weaker, list_all_each}
 use Rattle.bdb_base.proofs.SetLemmas.{is_eq_itself}
 use Rattle.bdb_base.proofs.WorldRowsLemmas.{list_all-flat_map}
 use Rattle.bdb_paths.specs.Places.{place_in}
@@ -34,10 +34,6 @@ list_all_map p q f h [] a = refl
 list_all_map p q f h (x ∷ xs) a =
     let k = and_parts (p x) (list_all p xs) a in
     and_from (q (f x)) (list_all q (map f xs)) (h x k.0) (list_all_map p q f h xs k.1)
-
-list_all_each : {X : Type 0} (p : X → Bool) → ((x : X) → p x ≡ true) → (xs : List X) → list_all p xs ≡ true
-list_all_each p h [] = refl
-list_all_each p h (x ∷ xs) = and_from (p x) (list_all p xs) (h x) (list_all_each p h xs)
 
 -- each item of a list is a member of it
 pub items_are_members : {X : Type 0} {R : X → X → Ordering} (o : IsExactOrder R) (xs : List X) → list_all (is_member R xs) xs ≡ true

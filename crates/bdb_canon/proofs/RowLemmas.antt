@@ -21,7 +21,7 @@ use Rattle.bdb_base.specs.Worlds.{explicit, stated}
 use Rattle.bdb_base.proofs.CountLemmas.{list_any-map}
 use Rattle.bdb_base.proofs.SetLemmas.{is_eq-Equal, is_eq_itself}
 use Rattle.bdb_base.proofs.WorldRowsLemmas.{list_any-flat_map, stated_is_member}
-use Rattle.bdb_paths.proofs.StateLemmas.{list_any_under}
+use Rattle.bdb_base.proofs.ListLemmas.{or_false, list_any_under}
 use Rattle.bdb_paths.proofs.SuffixLemmas.{deepest_is_member, states_stand_for_paths}
 use Rattle.bdb_canon.specs.declared.structure.CanonRow.{CanonRow}
 use Rattle.bdb_paths.specs.Places.{place_in}
@@ -79,10 +79,6 @@ module _ {X : Type 0} {R : X → X → Ordering} (o : IsExactOrder R) where
         | inl e ↦ ap (λ b. b && g x) e ∙ ap g (o.exact x y (is_eq-Equal (R x y) e)) ∙ sym (and_turned (g y) true) ∙ ap (λ b. g y && b) (sym e)
         | inr e ↦ ap (λ b. b && g x) e ∙ sym (and_turned (g y) false) ∙ ap (λ b. g y && b) (sym e)
       ]
-
-or_false : (a : Bool) → (a || false) ≡ a
-or_false true = refl
-or_false false = refl
 
 -- ---- a world's row for a tuple
 

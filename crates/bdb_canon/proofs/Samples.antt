@@ -8,8 +8,8 @@ use Rattle.bdb_base.specs.declared.kinds.Catalog.{Catalog}
 use Rattle.bdb_base.specs.declared.kinds.Stmt.{Stmt}
 use Rattle.bdb_base.specs.declared.kinds.Query.{Query}
 use Rattle.bdb_base.specs.Bases.{IsValid}
-use Rattle.bdb_base.specs.Safety.{IsSafe, IsBound, IsMinusColumn, given, linked}
-use Rattle.bdb_canon.specs.Samples.{sightings, denied, disputed, reported, column, deniers}
+use Rattle.bdb_base.specs.Safety.{IsSafe, IsBound, IsMinusColumn, given, linked, column}
+use Rattle.bdb_canon.specs.Samples.{sightings, denied, disputed, reported, deniers}
 
 pub denied_is_valid : (c : Catalog) (xs : List Stmt) → c ≡ denied.catalog → xs ≡ denied.stmts → IsValid c xs
 unfolding is_utf8 chars encode

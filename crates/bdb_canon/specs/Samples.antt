@@ -16,6 +16,7 @@ use Rattle.bdb_base.specs.declared.kinds.UserSlot.{UserSlot}
 use Rattle.bdb_base.specs.declared.kinds.UserSlot.TheVariants.{Live}
 use Rattle.bdb_base.specs.declared.kinds.Value.TheVariants.{Text}
 use Rattle.bdb_base.specs.Bases.{Contents}
+use Rattle.bdb_base.specs.Safety.{column}
 
 -- S, with a key k and a value v
 abbrev pub sightings : RelDef
@@ -52,9 +53,6 @@ reported = record {
   catalog = record { rels = sightings ∷ []; users = three_users };
   stmts = stated_at (1 ∷ []) Plus (codes "s2") (codes "crow") ∷ stated_at (3 ∷ 1 ∷ []) Plus (codes "s1") (codes "eagle") ∷ [];
 }
-
-abbrev pub column : ℕ → ℕ → Ref
-column item col = record { item = item; col = col }
 
 -- two columns are equal
 abbrev pub joined : Ref → Ref → Cond

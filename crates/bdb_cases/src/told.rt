@@ -3,7 +3,7 @@ ghost use Rattle.std.specs.Prelude.{◌≡◌, false};
 
 use bdb_base::{List, Txt};
 use bdb_io::{MemSource, NoSource, ReadSource, Source, WriteSink};
-use bdb_keep::QuietKeeper;
+use bdb_memory::QuietKeeper;
 use bdb_top::run;
 use std::alloc::{AllocError, Global};
 use std::io;

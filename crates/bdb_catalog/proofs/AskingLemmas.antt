@@ -2,56 +2,41 @@
 use Rattle.std.proofs.Common.{◌≡◌, ◌∙◌, ℕ, suc, zero, ◌+◌, ◌-◌, ◌<◌, ◌≤◌, Bool, true, false, ◌&&◌, nat_eq, List, [], ◌∷◌, ◌++◌, append_assoc, length, take, drop, Option, Some, None, refl, ap, sym, subst, arith}
 use Rattle.std.specs.List.{list_all, slice_get}
 use Rattle.std.proofs.lemmas.Bool.{and_parts, and_from, cond-true, cond-false, eqb-true, eq-eqb, false≢true}
+use Rattle.std.proofs.lemmas.List.{take-take, take-append-drop, length-take-le}
 use Rattle.bdb_base.specs.Clash.{key_of}
 use Rattle.bdb_base.specs.Conditions.{meets, meets_one, value_at, operand_at, compare_so}
-use Rattle.bdb_base.specs.Order.{value_cmp}
-use Rattle.bdb_base.specs.OrderLemmas.{value_exact}
 use Rattle.bdb_base.specs.Safety.{is_equality, first_there}
 use Rattle.bdb_base.specs.Same.{same_values}
 use Rattle.bdb_base.specs.SameLemmas.{same_values-Decides}
 use Rattle.bdb_base.specs.Segments.{is_prefix}
-use Rattle.bdb_base.specs.declared.kinds.Cmp.{Cmp}
-use Rattle.bdb_base.specs.declared.kinds.Cmp.TheVariants.{Eq, Ne, Lt, Le, Gt, Ge}
+use Rattle.bdb_base.specs.declared.kinds.Cmp.TheVariants.{Eq}
 use Rattle.bdb_base.specs.declared.kinds.Cond.{Cond}
 use Rattle.bdb_base.specs.declared.kinds.Operand.{Operand}
 use Rattle.bdb_base.specs.declared.kinds.Operand.TheVariants.{Col, Lit}
 use Rattle.bdb_base.specs.declared.kinds.Value.{Value}
-use Rattle.bdb_base.specs.declared.kinds.Value.TheVariants.{Int, Text}
 use Rattle.bdb_base.specs.declared.tuple.Tuple.{Tuple}
-use Rattle.bdb_base.proofs.SetLemmas.{is_eq-Equal}
-use Rattle.bdb_key.specs.Bytes.{num_bytes, value_bytes, values_bytes, vals_bytes}
+use Rattle.bdb_base.proofs.ListLemmas.{drop_there}
+use Rattle.bdb_base.proofs.ConditionLemmas.{equality_is, equal_value}
+use Rattle.bdb_key.specs.Bytes.{num_bytes, values_bytes, vals_bytes}
 use Rattle.bdb_key.specs.Grammar.{IsNum, ArePlain, AreKeyVals}
 use Rattle.bdb_key.specs.Rows.{IsTupleRow}
 use Rattle.bdb_key.proofs.Readings.{num_form}
+use Rattle.bdb_key.proofs.Compared.{take_plain, values_append}
 use Rattle.bdb_tables.specs.InUse.{val_bytes}
 use Rattle.bdb_tables.specs.Rows.{AreKeyLengths}
-use Rattle.bdb_tables.specs.Beginnings.{is_written, led_by}
-use Rattle.bdb_tables.proofs.BeginningLemmas.{values_part}
+use Rattle.bdb_tables.specs.Prefixes.{led_by}
+use Rattle.bdb_tables.proofs.PrefixLemmas.{values_part, all_written}
+use Rattle.bdb_base.specs.Bases.{is_written}
 use Rattle.bdb_tables.proofs.ListLemmas.{prefix_append, prefix_rest}
 use Rattle.bdb_val.specs.Reads.{IsSpan}
 use Rattle.bdb_val.specs.Settling.{row_key}
 use Rattle.bdb_val.proofs.ReadLemmas.{key_of_fits}
-use Rattle.bdb_catalog.specs.Taking.{asks_for, beginning, is_asked, literal_of, starts_with, value_asked, value_of_test, values_asked, values_from}
+use Rattle.bdb_catalog.specs.Taking.{asks_for, key_prefix, is_asked, literal_of, starts_with, value_asked, value_of_test, values_asked, values_from}
 
 -- ---- what a tuple has that meets tests
 
 none_some : (v : Value) → None ≡ Some v → ⊥
 none_some v e = cc
-
-some_value : (a b : Value) → Some a ≡ Some b → a ≡ b
-some_value a b e = cc
-
-equal_values : (o : Option Value) (v : Value) → compare_so Eq o (Some v) ≡ true → o ≡ Some v
-equal_values None v e = absurd (false≢true e)
-equal_values (Some x) v e = ap Some (value_exact.exact x v (is_eq-Equal (value_cmp x v) e))
-
-equality : (c : Cmp) → is_equality c ≡ true → c ≡ Eq
-equality Eq e = refl
-equality Ne e = absurd (false≢true e)
-equality Lt e = absurd (false≢true e)
-equality Le e = absurd (false≢true e)
-equality Gt e = absurd (false≢true e)
-equality Ge e = absurd (false≢true e)
 
 literal_is : (u : Tuple) (o : Operand) (v : Value) → literal_of o ≡ Some v → operand_at u o ≡ Some v
 literal_is u (Col r) v e = absurd (none_some v e)
@@ -68,8 +53,8 @@ test_tells c col u v k m = by (asks_for c col) refl
         let right : operand_at u c.right ≡ Some v = literal_is u c.right v (sym (cond-true (asks_for c col) (literal_of c.right) None a) ∙ k) in
         let left : value_at u c.left ≡ slice_get u.vals col =
         cond-true (nat_eq c.left.item 0) (slice_get u.vals c.left.col) None q.0 ∙ ap (λ n. slice_get u.vals n) (eqb-true c.left.col col q.1) in
-        equal_values (slice_get u.vals col) v
-        (sym (ap (λ cmp. compare_so cmp (value_at u c.left) (operand_at u c.right)) (equality c.cmp p.0)
+        equal_value (slice_get u.vals col) v
+        (sym (ap (λ cmp. compare_so cmp (value_at u c.left) (operand_at u c.right)) (equality_is c.cmp p.0)
         ∙ ap (λ o. compare_so Eq o (operand_at u c.right)) left ∙ ap (λ o. compare_so Eq (slice_get u.vals col) o) right) ∙ m)
     by false a = absurd (none_some v (sym (cond-false (asks_for c col) (literal_of c.right) None a) ∙ k))
 
@@ -84,12 +69,6 @@ asked_met (c ∷ cs) col u v k m = by (value_of_test c col) refl (λ e. asked_me
     by : (o : Option Value) → value_of_test c col ≡ o → (value_asked cs col ≡ Some v → slice_get u.vals col ≡ Some v) → slice_get u.vals col ≡ Some v
     by None e rest = rest (sym (ap (λ o. first_there o (value_asked cs col)) e) ∙ k)
     by (Some x) e rest = test_tells c col u v (e ∙ (sym (ap (λ o. first_there o (value_asked cs col)) e) ∙ k)) parts.0
-
--- values from one on that is there
-drop_there : (vs : List Value) (i : ℕ) (v : Value) → slice_get vs i ≡ Some v → drop i vs ≡ v ∷ drop (suc i) vs
-drop_there [] i v e = absurd (none_some v e)
-drop_there (x ∷ vs) zero v e = ap (λ (y : Value). y ∷ vs) (some_value x v e)
-drop_there (x ∷ vs) (suc i) v e = drop_there vs i v e
 
 -- from each column on it has the values that they ask for
 values_met : (conds : List Cond) (u : Tuple) → meets conds u ≡ true → (most col : ℕ) → take (length (values_from conds most col)) (drop col u.vals) ≡ values_from conds most col
@@ -111,31 +90,6 @@ few_from conds (suc n) col = by (value_asked conds col) (few_from conds n (suc c
     by None rest = omega arith
     by (Some v) rest = omega (arith, rest)
 
--- ---- first values
-
-take_long : (n : ℕ) (vs : List Value) → n ≤ length vs → length (take n vs) ≡ n
-take_long zero vs l = refl
-take_long (suc n) [] l = absurd (omega arith)
-take_long (suc n) (v ∷ vs) l = ap suc (take_long n vs (omega arith))
-
-take_plain : (n : ℕ) (vs : List Value) → ArePlain vs → ArePlain (take n vs)
-take_plain zero vs a = tt
-take_plain (suc n) [] a = tt
-take_plain (suc n) (v ∷ vs) a = (a.0, take_plain n vs a.1)
-
--- the first of some first values are the first of all
-take_take : (m n : ℕ) (vs : List Value) → m ≤ n → take m (take n vs) ≡ take m vs
-take_take zero n vs le = refl
-take_take (suc m) zero vs le = absurd (omega arith)
-take_take (suc m) (suc n) [] le = refl
-take_take (suc m) (suc n) (v ∷ vs) le = ap (λ (xs : List Value). v ∷ xs) (take_take m n vs (omega arith))
-
--- some first values, and the others
-take_and_drop : (n : ℕ) (vs : List Value) → take n vs ++ drop n vs ≡ vs
-take_and_drop zero vs = refl
-take_and_drop (suc n) [] = refl
-take_and_drop (suc n) (v ∷ vs) = ap (λ (xs : List Value). v ∷ xs) (take_and_drop n vs)
-
 -- ---- tuples that are asked for
 
 has_started : (n : ℕ) (vs key : List Value) → length key ≡ n → take (length vs) key ≡ vs → starts_with n vs key ≡ true
@@ -156,18 +110,13 @@ meets_asked keys conds rel u whole r m =
     let long : keys rel ≤ length u.vals = subst (λ (k : ℕ). keys k ≤ length u.vals) is whole in
     and_from (nat_eq u.rel rel) (starts_with (keys rel) vs (key_of keys u)) r
     (ap (λ (k : ℕ). starts_with (keys rel) vs (take (keys k) u.vals)) is
-    ∙ has_started (keys rel) vs (take (keys rel) u.vals) (take_long (keys rel) u.vals long)
-    (take_take (length vs) (keys rel) u.vals (few_from conds (keys rel) 0) ∙ values_met conds u m (keys rel) 0))
+    ∙ has_started (keys rel) vs (take (keys rel) u.vals) (length-take-le (keys rel) u.vals long)
+    (take-take (length vs) (keys rel) u.vals (few_from conds (keys rel) 0) ∙ values_met conds u m (keys rel) 0))
 
 pub asked_rel : (keys : ℕ → ℕ) (rel : ℕ) (vs : List Value) (u : Tuple) → is_asked keys rel vs u ≡ true → nat_eq u.rel rel ≡ true
 asked_rel keys rel vs u e = (and_parts (nat_eq u.rel rel) (starts_with (keys rel) vs (key_of keys u)) e).0
 
 -- ---- values that no tuple has
-
-all_written : (vs : List Value) → ArePlain vs → list_all is_written vs ≡ true
-all_written [] a = refl
-all_written (Int m ∷ vs) a = all_written vs a.1
-all_written (Text t ∷ vs) a = and_from (is_written (Text t)) (list_all is_written vs) a.0 (all_written vs a.1)
 
 -- no tuple meets tests that ask for a value that no tuple has
 pub none_meets : (conds : List Cond) (n : ℕ) (u : Tuple) → IsTupleRow u → list_all is_written (values_asked conds n) ≡ false → meets conds u ≡ true → ⊥
@@ -177,25 +126,21 @@ none_meets conds n u g out m =
 
 -- ---- keys
 
-values_append : (xs ys : List Value) → values_bytes (xs ++ ys) ≡ values_bytes xs ++ values_bytes ys
-values_append [] ys = refl
-values_append (x ∷ xs) ys = ap (λ (r : List ℕ). value_bytes x ++ r) (values_append xs ys) ∙ sym (append_assoc (value_bytes x) (values_bytes xs) (values_bytes ys))
-
 -- a key that has so many values and starts with some begins with their number and these
 module _ (wid rel n : ℕ) (vs : List Value) where
-  begins_with : (rest : List Value) (tid : ℕ) → length (vs ++ rest) ≡ n → is_prefix (beginning n wid rel vs) (val_bytes (wid, rel, vs ++ rest, tid)) ≡ true
+  begins_with : (rest : List Value) (tid : ℕ) → length (vs ++ rest) ≡ n → is_prefix (key_prefix n wid rel vs) (val_bytes (wid, rel, vs ++ rest, tid)) ≡ true
   begins_with rest tid many =
       let m = length (vs ++ rest) in
-      ap (λ (k : ℕ). is_prefix (beginning k wid rel vs) (val_bytes (wid, rel, vs ++ rest, tid))) (sym many)
-      ∙ ap (λ (tail : List ℕ). is_prefix (beginning m wid rel vs) (num_bytes wid ++ num_bytes rel ++ num_bytes m ++ tail))
+      ap (λ (k : ℕ). is_prefix (key_prefix k wid rel vs) (val_bytes (wid, rel, vs ++ rest, tid))) (sym many)
+      ∙ ap (λ (tail : List ℕ). is_prefix (key_prefix m wid rel vs) (num_bytes wid ++ num_bytes rel ++ num_bytes m ++ tail))
       (ap (λ (r : List ℕ). r ++ num_bytes tid) (values_append vs rest) ∙ append_assoc (values_bytes vs) (values_bytes rest) (num_bytes tid))
-      ∙ prefix_append (beginning m wid rel vs) (values_bytes rest ++ num_bytes tid)
+      ∙ prefix_append (key_prefix m wid rel vs) (values_bytes rest ++ num_bytes tid)
 
-  front_begins : (key : List Value) (tid : ℕ) → starts_with n vs key ≡ true → is_prefix (beginning n wid rel vs) (val_bytes (wid, rel, key, tid)) ≡ true
+  front_begins : (key : List Value) (tid : ℕ) → starts_with n vs key ≡ true → is_prefix (key_prefix n wid rel vs) (val_bytes (wid, rel, key, tid)) ≡ true
   front_begins key tid e =
       let p = started n vs key e in
-      let split : key ≡ vs ++ drop (length vs) key = sym (take_and_drop (length vs) key) ∙ ap (λ (xs : List Value). xs ++ drop (length vs) key) p.1 in
-      ap (λ (xs : List Value). is_prefix (beginning n wid rel vs) (val_bytes (wid, rel, xs, tid))) split ∙ begins_with (drop (length vs) key) tid (sym (ap length split) ∙ p.0)
+      let split : key ≡ vs ++ drop (length vs) key = sym (take-append-drop (length vs) key) ∙ ap (λ (xs : List Value). xs ++ drop (length vs) key) p.1 in
+      ap (λ (xs : List Value). is_prefix (key_prefix n wid rel vs) (val_bytes (wid, rel, xs, tid))) split ∙ begins_with (drop (length vs) key) tid (sym (ap length split) ∙ p.0)
 
   -- and the other way round
   front_starts : (key : List Value) (tid : ℕ) (rest : List ℕ) → length vs ≤ n → IsNum n → ArePlain vs → AreKeyVals key → vals_bytes key ++ num_bytes tid ≡ num_bytes n ++ (values_bytes vs ++ rest)
@@ -206,17 +151,17 @@ module _ (wid rel n : ℕ) (vs : List Value) where
 
 -- the keys of a world's rows whose tuples are asked for are those that begin so
 pub asked_span : (keys : ℕ → ℕ) → AreKeyLengths keys → (wid rel : ℕ) (vs : List Value) → IsNum wid → IsNum rel → length vs ≤ keys rel → ArePlain vs
-    → IsSpan keys wid (is_asked keys rel vs) (beginning (keys rel) wid rel vs)
+    → IsSpan keys wid (is_asked keys rel vs) (key_prefix (keys rel) wid rel vs)
 asked_span keys lengths wid rel vs w r few p = record {
   world = λ k f e.
-      let s = prefix_rest (beginning (keys rel) wid rel vs) (val_bytes k) e in
+      let s = prefix_rest (key_prefix (keys rel) wid rel vs) (val_bytes k) e in
       (num_form k.0 wid (num_bytes k.1 ++ vals_bytes k.2 ++ num_bytes k.3) (num_bytes rel ++ num_bytes (keys rel) ++ (values_bytes vs ++ s.0)) f.world w s.1).0;
   begins = λ tid u e.
       let k = and_parts (nat_eq u.rel rel) (starts_with (keys rel) vs (key_of keys u)) e in
-      ap (λ (x : ℕ). is_prefix (beginning (keys rel) wid rel vs) (val_bytes (wid, x, key_of keys u, tid))) (eqb-true u.rel rel k.0)
+      ap (λ (x : ℕ). is_prefix (key_prefix (keys rel) wid rel vs) (val_bytes (wid, x, key_of keys u, tid))) (eqb-true u.rel rel k.0)
       ∙ front_begins wid rel (keys rel) vs (key_of keys u) tid k.1;
   inside = λ tid u g e.
-      let s = prefix_rest (beginning (keys rel) wid rel vs) (val_bytes (row_key keys wid tid u)) e in
+      let s = prefix_rest (key_prefix (keys rel) wid rel vs) (val_bytes (row_key keys wid tid u)) e in
       let one = num_form wid wid (num_bytes u.rel ++ vals_bytes (key_of keys u) ++ num_bytes tid) (num_bytes rel ++ num_bytes (keys rel) ++ (values_bytes vs ++ s.0)) w w s.1 in
       let two = num_form u.rel rel (vals_bytes (key_of keys u) ++ num_bytes tid) (num_bytes (keys rel) ++ (values_bytes vs ++ s.0)) g.rel r one.1 in
       and_from (nat_eq u.rel rel) (starts_with (keys rel) vs (key_of keys u)) (eq-eqb u.rel rel two.0)

@@ -1,11 +1,12 @@
 -- The row of one who is gone in place of a user's, and no edge for him at any world.
-use Rattle.std.proofs.Common.{◌≡◌, ◌∙◌, ℕ, ◌+◌, ◌*◌, ◌≤◌, Bool, nat_eq, length, refl, sym, subst, arith, Option, Some}
+use Rattle.std.proofs.Common.{◌≡◌, ◌∙◌, ℕ, ◌≤◌, Bool, nat_eq, length, refl, sym, subst, Option, Some}
 use Rattle.std.specs.FinMap as tables
 use Rattle.bdb_base.specs.Bases.{Contents, is_user, without_user, world_count}
-use Rattle.bdb_base.specs.Causes.{Rises, RoseBy}
+use Rattle.bdb_base.specs.Causes.{RoseBy}
 use Rattle.bdb_base.specs.declared.kinds.UserSlot.{UserSlot}
 use Rattle.bdb_base.specs.declared.kinds.UserSlot.TheVariants.{Gone}
 use Rattle.bdb_base.proofs.UserLemmas.{others_are_users}
+use Rattle.bdb_base.proofs.CauseLemmas.{rises_twice_and_once}
 use Rattle.bdb_keep.specs.Seen.{Seen}
 use Rattle.bdb_keep.specs.Tables.{Tables}
 use Rattle.bdb_tables.specs.Codec.{place}
@@ -70,12 +71,9 @@ module _ (t m : Tables) (uid : ℕ) (put : m ≡ tables.insert t (place user_cod
 
 -- ---- how often is written
 
-place_and_edges : (n k a b c : ℕ) → b ≤ c → n ≡ k → RoseBy 1 a b → Rises (2 * n) b c → Rises (2 * k + 1) a c
-place_and_edges n k a b c le same one edges below = let e = edges below in omega arith
-
 pub place_written : (old mid new : Seen) (uid : ℕ) → mid.kept ≡ tables.insert old.kept (place user_codec uid) (user_codec.row_bytes Gone) → mid.writes ≤ new.writes
     → RoseBy 1 old.writes mid.writes → WritesDropped mid new uid → WritesPlace old new uid
 place_written old mid new uid put le one edges b h =
-    place_and_edges (length h.stored.names.used) (world_count b.stmts) old.writes mid.writes new.writes le
+    rises_twice_and_once (length h.stored.names.used) (world_count b.stmts) old.writes mid.writes new.writes le
     (numbers_are_counted h.stored.names h.stored.stored.states.names b.stmts h.stored.stored.worlds) one
     (edges (worlds old.kept mid.kept uid put b h) (before old.kept mid.kept uid put b h) (may old.kept mid.kept uid put b h))

@@ -1,10 +1,10 @@
 -- The rows that are read of a world under a beginning of their keys, and the tuples of those that are explicit with a sign.
-use Rattle.std.proofs.Common.{◌≡◌, ◌∙◌, ◌⊎◌, ℕ, suc, ◌+◌, ◌≤◌, Bool, true, false, ◌&&◌, cond, List, [], ◌∷◌, ◌++◌, ◌<◌, length, map, filter, take, get_or, Option, Some, None, is_some, inl, inr, refl, ap, sym, subst, arith}
+use Rattle.std.proofs.Common.{◌≡◌, ◌∙◌, ◌⊎◌, ℕ, suc, ◌+◌, ◌≤◌, Bool, true, false, ◌&&◌, cond, List, [], ◌∷◌, ◌++◌, ◌<◌, length, map, filter, take, get_or, Option, Some, is_some, inl, inr, refl, ap, sym, subst, arith}
 use Rattle.std.specs.List.{list_any, list_all, AllByRecursion}
 use Rattle.std.specs.Option.{option_map}
 use Rattle.std.specs.Ordering.{is_eq, is_lt, eq_by_cmp}
 use Rattle.std.specs.FinMap as tables
-use Rattle.std.proofs.lemmas.Bool.{and_parts, and_from, or_cases, or_left, or_right, or_from, cond-true, cond-false, false≢true, true≢false, false_from_ne_true}
+use Rattle.std.proofs.lemmas.Bool.{and_parts, and_from, or_cases, or_left, or_right, or_from, cond-true, cond-false, false≢true, false_from_ne_true}
 use Rattle.std.proofs.lemmas.List.{take_more}
 use Rattle.bdb_base.specs.Bases.{distinct_count}
 use Rattle.bdb_base.specs.Same.{same_tuple, same_sign}
@@ -17,28 +17,32 @@ use Rattle.bdb_base.specs.declared.kinds.Held.{Held}
 use Rattle.bdb_base.specs.declared.kinds.Sign.{Sign}
 use Rattle.bdb_base.specs.declared.kinds.Stmt.{Stmt}
 use Rattle.bdb_base.specs.declared.tuple.Tuple.{Tuple}
-use Rattle.bdb_base.proofs.CountLemmas.{one_unless, distinct_count-le}
-use Rattle.bdb_base.proofs.ListLemmas.{list_all-filter}
-use Rattle.bdb_base.proofs.WorldLemmas.{explicit_tuple}
+use Rattle.bdb_base.proofs.CountLemmas.{one_unless, distinct_count-le, count_within}
+use Rattle.bdb_base.proofs.ListLemmas.{list_all-filter, filter_push, length_map}
+use Rattle.bdb_base.proofs.WorldLemmas.{explicit_tuple, explicit_is_stated}
 use Rattle.bdb_base.proofs.WorldRowsLemmas.{rows_are_the_world, same_row_tells}
+use Rattle.bdb_base.proofs.OptionLemmas.{some_of, none_is_some, one_there}
+use Rattle.bdb_base.proofs.AllLemmas.{all_filter}
 use Rattle.bdb_keep.specs.Tables.{Tables, bytes_cmp}
+use Rattle.bdb_keep.proofs.RowsLemmas.{same_place}
 use Rattle.bdb_key.specs.Grammar.{IsNum}
 use Rattle.bdb_key.specs.Rows.{mark_bytes, tuple_bytes}
 use Rattle.bdb_key.proofs.Forms.{tied}
 use Rattle.bdb_tables.specs.Codec.{HasRow, place}
 use Rattle.bdb_tables.specs.InUse.{ValKey, IsValKey, val_bytes, tuple_codec, val_codec}
-use Rattle.bdb_tables.specs.InUseLaws.{vals_are_one, mark_rows_are_one}
+use Rattle.bdb_tables.specs.InUseLaws.{vals_are_one}
 use Rattle.bdb_tables.specs.Marks.{Mark, mark_of}
 use Rattle.bdb_tables.specs.Names.{Names, path_of}
 use Rattle.bdb_tables.specs.Rows.{Tuples, HoldsTuples, HoldsRows, row_for, AreKeyLengths}
 use Rattle.bdb_tables.specs.Spans.{AreUnder, IsUnder, entry_cmp}
-use Rattle.bdb_tables.proofs.Held.{same_place, some_same, none_some}
-use Rattle.bdb_tables.proofs.ListLemmas.{all_filter, all_pass}
+use Rattle.bdb_tables.proofs.ListLemmas.{all_pass}
+use Rattle.bdb_tables.proofs.MarkLemmas.{mark_is}
 use Rattle.bdb_val.specs.Reads.{HasRows, IsSpan}
 use Rattle.bdb_val.specs.Settling.{row_key}
-use Rattle.bdb_val.proofs.HeldLemmas.{some_is, held_names, right_row, explicit_is_stated}
+use Rattle.bdb_val.proofs.HeldLemmas.{held_names, right_row}
 use Rattle.bdb_val.proofs.ReadLemmas.{rows_at, one_number, tuple_named, tuple_row, key_fits}
 use Rattle.bdb_val.proofs.WorldLemmas.{mark_tells, mark_has}
+use Rattle.bdb_val.proofs.CopyLemmas.{not_below_itself}
 use Rattle.bdb_catalog.specs.Taking.{is_said, AreTuplesOf}
 
 abbrev pub Entry : Type 0
@@ -58,9 +62,6 @@ up_filter p (e ∷ es) up =
     by : above e (filter p es) ≡ true → ascending (entry_cmp val_codec) (filter p es) ≡ true → (b : Bool) → ascending (entry_cmp val_codec) (cond b (e ∷ filter p es) (filter p es)) ≡ true
     by a rest true = and_from (above e (filter p es)) (ascending (entry_cmp val_codec) (filter p es)) a rest
     by a rest false = rest
-
-not_below_itself : (b : List ℕ) → is_lt (bytes_cmp b b) ≡ true → ⊥
-not_below_itself b e = true≢false (sym e ∙ ap is_lt (tied b b refl))
 
 -- ---- each row is found where it stands
 
@@ -97,10 +98,6 @@ rows_are_there t prefix es a = go es a.each (found_each es a.sorted)
     go [] b c = tt
     go (d ∷ ds) b c = ((b.0.key, a.found (val_bytes d.0) b.0.begins ∙ c.0), go ds b.1 c.1)
 
-mark_here : (o : Option Mark) (m : Mark) → option_map mark_bytes o ≡ Some (mark_bytes m) → o ≡ Some m
-mark_here None m e = absurd (none_some (mark_bytes m) e)
-mark_here (Some k) m e = ap Some (mark_rows_are_one k m tt tt (some_same (mark_bytes k) (mark_bytes m) e))
-
 -- ---- rows of a world
 
 abbrev pub held_of : Tuple → Mark → Held
@@ -126,27 +123,12 @@ passed q (h ∷ rows) g e p = by (q h) refl (or_cases (same_row g h) (has_row ro
     by false c (inl k) rest = absurd (false≢true (sym c ∙ ap q (sym (row_is g h k)) ∙ p))
     by false c (inr k) rest = rest k
 
-count_within : (xs : List Tuple) → distinct_count same_tuple xs ≤ length xs
-count_within [] = omega arith
-count_within (x ∷ xs) = by (list_any (same_tuple x) xs) (count_within xs)
-  where
-    by : (b : Bool) → distinct_count same_tuple xs ≤ length xs → one_unless b + distinct_count same_tuple xs ≤ length (x ∷ xs)
-    by true le = omega arith
-    by false le = omega arith
-
 among_all : (vs us : List Tuple) → AllByRecursion (λ u. list_any (same_tuple u) vs ≡ true) us → (y : Tuple) → list_any (same_tuple y) us ≡ true → list_any (same_tuple y) vs ≡ true
 among_all vs [] h y e = absurd (false≢true e)
 among_all vs (u ∷ us) h y e = elim (or_cases (same_tuple y u) (list_any (same_tuple y) us) e) [
   | inl k ↦ ap (λ x. list_any (same_tuple x) vs) ((same_tuple-Decides y u).0 k) ∙ h.0
   | inr k ↦ among_all vs us h.1 y k
 ]
-
-length_map : {X Y : Type 0} (f : X → Y) (xs : List X) → length (map f xs) ≡ length xs
-length_map f [] = refl
-length_map f (x ∷ xs) = ap suc (length_map f xs)
-
-one_of_two : (a b : ℕ) (o : Option ℕ) → o ≡ Some a → o ≡ Some b → a ≡ b
-one_of_two a b o p q = cc
 
 module _ (keys : ℕ → ℕ) (stmts : List Stmt) (ns : Names) (ts : Tuples) (t : Tables) (lengths : AreKeyLengths keys) (consistent : IsConsistent keys stmts) (h : HoldsTuples stmts ts t) (r : HoldsRows keys stmts (path_of ns) ts.tuple t)
     (wid : ℕ) (n : IsNum wid) (w : List ℕ) (path : path_of ns wid ≡ Some w) (s : Sign) (test : Tuple → Bool) (prefix : List ℕ) (span : IsSpan keys wid test prefix) where
@@ -166,7 +148,7 @@ module _ (keys : ℕ → ℕ) (stmts : List Stmt) (ns : Names) (ts : Tuples) (t 
 
   one_is : (e : Entry) → IsUnder val_codec prefix e → tables.get t (place val_codec e.0) ≡ Some (mark_bytes e.1) → IsOf e
   one_is e a found =
-      let g : f e.0 ≡ Some e.1 = mark_here (f e.0) e.1 (sym (r.rows e.0 a.key) ∙ found) in
+      let g : f e.0 ≡ Some e.1 = mark_is (f e.0) e.1 (sym (r.rows e.0 a.key) ∙ found) in
       let k = rows.keyed e.0 a.key (ap is_some g) in
       let key : row_key keys wid e.0.3 k.0 ≡ e.0 = ap (λ x. row_key keys x e.0.3 k.0) (sym (span.world e.0 a.key a.begins)) ∙ k.2 in
       record {
@@ -223,12 +205,12 @@ module _ (keys : ℕ → ℕ) (stmts : List Stmt) (ns : Names) (ts : Tuples) (t 
 
     is_read : (es : List Entry) (us : List Tuple) → AllByRecursion (IsUnder val_codec prefix) es → AllByRecursion IsOf es → AreTuplesOf t (filter (is_said s) es) us
         → rows_at es key_bytes ≡ Some (mark_bytes (s, true)) → list_any (same_tuple u) us ≡ true
-    is_read [] us a k c found = absurd (none_some (mark_bytes (s, true)) found)
+    is_read [] us a k c found = absurd (none_is_some (mark_bytes (s, true)) found)
     is_read (e ∷ es) us a k c found =
         by (eq_by_cmp bytes_cmp key_bytes (val_bytes e.0)) refl (is_said s e) refl us c (λ vs d x. is_read es vs a.1 k.1 d x)
       where
         mark_same : (o : Option Mark) → o ≡ Some e.1 → option_map mark_bytes o ≡ Some (mark_bytes (s, true)) → e.1 ≡ (s, true)
-        mark_same o x y = let l : Some e.1 ≡ Some (s, true) = sym x ∙ mark_here o (s, true) y in cc
+        mark_same o x y = let l : Some e.1 ≡ Some (s, true) = sym x ∙ mark_is o (s, true) y in cc
 
         said : e.1 ≡ (s, true) → is_said s e ≡ true
         said x = ap (λ (m : Mark). m.1 && same_sign m.0 s) x ∙ (same_sign-Decides s s).1 refl
@@ -253,7 +235,7 @@ module _ (keys : ℕ → ℕ) (stmts : List Stmt) (ns : Names) (ts : Tuples) (t 
   pub stated_are_read : (es : List Entry) (us : List Tuple) → AreUnder val_codec t prefix es → AreTuplesOf t (filter (is_said s) es) us
       → (u : Tuple) → explicit stmts w u s ≡ true → test u ≡ true → list_any (same_tuple u) us ≡ true
   stated_are_read es us a c u e p =
-      let number = some_is (ts.number u) (h.stated u ∙ explicit_tuple stmts w u s e) in
+      let number = some_of (ts.number u) (h.stated u ∙ explicit_tuple stmts w u s e) in
       let tid = number.0 in
       let named = h.numbered u tid number.1 in
       let fits = key_fits keys ts.tuple f t rows wid tid u n named in
@@ -277,7 +259,7 @@ module _ (keys : ℕ → ℕ) (stmts : List Stmt) (ns : Names) (ts : Tuples) (t 
       or_from (same_tuple x z) (list_any (same_tuple x) us)
       (false_from_ne_true (same_tuple x z) (λ i.
       let same : x ≡ z = (same_tuple-Decides x z).0 i in
-      let number : d.0.3 ≡ e.0.3 = one_of_two d.0.3 e.0.3 (ts.number z) (ap ts.number (sym same) ∙ h.named d.0.3 x named) (h.named e.0.3 z (told_named e a.0 z c.0)) in
+      let number : d.0.3 ≡ e.0.3 = one_there d.0.3 e.0.3 (ts.number z) (ap ts.number (sym same) ∙ h.named d.0.3 x named) (h.named e.0.3 z (told_named e a.0 z c.0)) in
       let tuple : k.u ≡ a.0.u = one_number ts.tuple d.0.3 e.0.3 k.u a.0.u k.named a.0.named number in
       let key : d.0 ≡ e.0 = sym k.key ∙ ap (λ i. row_key keys wid i k.u) number ∙ ap (λ v. row_key keys wid e.0.3 v) tuple ∙ a.0.key in
       not_below_itself (val_bytes d.0) (ap (λ (q : ValKey). is_lt (bytes_cmp (val_bytes d.0) (val_bytes q))) key ∙ p.0)))
@@ -359,15 +341,6 @@ as_many t (e ∷ es) [] c = absurd c
 as_many t (e ∷ es) (u ∷ us) c = ap suc (as_many t es us c.1)
 
 -- ---- the loop that reads
-
-filter_push : {X : Type 0} (p : X → Bool) (xs : List X) (x : X) → filter p (xs ++ x ∷ []) ≡ filter p xs ++ cond (p x) (x ∷ []) []
-filter_push p [] x = refl
-filter_push p (y ∷ xs) x = by (p y) (filter_push p xs x)
-  where
-    by : (b : Bool) → filter p (xs ++ x ∷ []) ≡ filter p xs ++ cond (p x) (x ∷ []) []
-        → cond b (y ∷ filter p (xs ++ x ∷ [])) (filter p (xs ++ x ∷ [])) ≡ cond b (y ∷ filter p xs) (filter p xs) ++ cond (p x) (x ∷ []) []
-    by true e = ap (λ ys. y ∷ ys) e
-    by false e = e
 
 tuples_push : (t : Tables) (es : List Entry) (e : Entry) (us : List Tuple) (u : Tuple) → AreTuplesOf t es us → HasRow tuple_codec t e.0.3 u → AreTuplesOf t (es ++ e ∷ []) (us ++ u ∷ [])
 tuples_push t [] e [] u c row = (row, tt)

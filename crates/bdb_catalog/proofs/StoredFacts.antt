@@ -1,7 +1,7 @@
 -- What tables have that store a base.
-use Rattle.std.proofs.Common.{◌≡◌, ◌∙◌, ℕ, true, List, sym, ap, Option, Some, None, is_some, refl}
-use Rattle.std.specs.Option.{option_map}
+use Rattle.std.proofs.Common.{◌≡◌, ◌∙◌, ℕ, true, List, sym, ap, is_some}
 use Rattle.bdb_base.specs.Bases.{Contents, is_user}
+use Rattle.bdb_base.proofs.OptionLemmas.{some_mapped}
 use Rattle.bdb_keep.specs.Tables.{Tables}
 use Rattle.bdb_tables.specs.Grammar.{InGrammar}
 use Rattle.bdb_tables.specs.InUse.{tuple_codec, val_codec}
@@ -15,18 +15,13 @@ use Rattle.bdb_val.proofs.HeldLemmas.{held_names}
 use Rattle.bdb_worlds.specs.Holding.{HoldSome}
 use Rattle.bdb_catalog.specs.Bases.{SomeHasUsers}
 
--- a row that is written stands for something
-stands_for : {X : Type 0} (bytes : X → List ℕ) (o : Option X) → is_some (option_map bytes o) ≡ is_some o
-stands_for bytes None = refl
-stands_for bytes (Some x) = refl
-
 -- each row of a world has its tuple
 pub stored_has_tuples : (ns : Names) (ts : Tuples) (t : Tables) (b : Contents) → StoredAs ns ts t b → HaveTuples t
 stored_has_tuples ns ts t b h k v s =
     let f = row_for (keys_of b) b.stmts (path_of ns) ts.tuple in
-    let there : is_some (f k) ≡ true = sym (ap is_some (h.rows.rows k v) ∙ stands_for val_codec.row_bytes (f k)) ∙ s in
+    let there : is_some (f k) ≡ true = sym (ap is_some (h.rows.rows k v) ∙ some_mapped val_codec.row_bytes (f k)) ∙ s in
     let named = (held_names (keys_of b) b.stmts b.stmts ns ts t h.tuples k there).1 in
-    ap is_some (h.tuples.tuples.rows k.3 v.tuple) ∙ stands_for tuple_codec.row_bytes (ts.tuple k.3) ∙ ap is_some named.1
+    ap is_some (h.tuples.tuples.rows k.3 v.tuple) ∙ some_mapped tuple_codec.row_bytes (ts.tuple k.3) ∙ ap is_some named.1
 
 -- ---- where some base has the users of a path
 

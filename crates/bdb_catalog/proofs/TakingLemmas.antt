@@ -1,9 +1,9 @@
 -- The statements of the tuples that are read of a path's world are those that are taken.
-use Rattle.std.proofs.Common.{◌≡◌, ◌∙◌, ◌⊎◌, ℕ, suc, ◌+◌, ◌-◌, ◌^◌, ◌<◌, ◌≤◌, Bool, true, false, ◌&&◌, ◌||◌, nat_eq, cond, List, [], ◌∷◌, ◌++◌, length, map, filter, Option, Some, None, MatchOption, refl, ap, sym, subst, arith, inl, inr}
+use Rattle.std.proofs.Common.{◌≡◌, ◌∙◌, ◌⊎◌, ℕ, ◌+◌, ◌-◌, ◌^◌, ◌<◌, ◌≤◌, Bool, true, false, ◌&&◌, ◌||◌, nat_eq, cond, List, [], ◌∷◌, ◌++◌, length, map, filter, Option, Some, None, MatchOption, refl, ap, sym, subst, arith, inl, inr}
 use Rattle.std.specs.List.{list_all, list_any, slice_get, AllByRecursion}
 use Rattle.std.specs.Ordering.{is_eq}
 use Rattle.std.proofs.lemmas.Bool.{cases_Bool, and_parts, and_from, or_cases, or_left, or_right, false≢true}
-use Rattle.bdb_base.specs.Bases.{Contents, IsValid, belongs, fits_columns, fits_definition, fits_kind, fits_relation, is_user, is_valid_relation, key_at, key_lengths, stands}
+use Rattle.bdb_base.specs.Bases.{Contents, IsValid, fits_definition, fits_relation, is_user, is_valid_relation, key_at, key_lengths, stands, is_written}
 use Rattle.bdb_base.specs.Causes.{RoseBy}
 use Rattle.bdb_base.specs.Changes.{is_taken, taken_by}
 use Rattle.bdb_base.specs.Conditions.{meets}
@@ -15,8 +15,6 @@ use Rattle.bdb_base.specs.SortedSet.{ascending, put_in, put_all}
 use Rattle.bdb_base.specs.States.{is_state}
 use Rattle.bdb_base.specs.WorldRows.{world_of}
 use Rattle.bdb_base.specs.Worlds.{explicit}
-use Rattle.bdb_base.specs.declared.kinds.Catalog.{Catalog}
-use Rattle.bdb_base.specs.declared.kinds.ColDef.{ColDef}
 use Rattle.bdb_base.specs.declared.kinds.Cond.{Cond}
 use Rattle.bdb_base.specs.declared.kinds.RelDef.{RelDef}
 use Rattle.bdb_base.specs.declared.kinds.Sign.{Sign}
@@ -25,7 +23,10 @@ use Rattle.bdb_base.specs.declared.kinds.Value.{Value}
 use Rattle.bdb_base.specs.declared.tuple.Tuple.{Tuple}
 use Rattle.bdb_base.proofs.ListLemmas.{filter_kept_one, filter_dropped_one, list_all_get}
 use Rattle.bdb_base.proofs.SetLemmas.{is_eq-Equal, is_eq_itself, filter_keeps_order, members_make_set, put_all_is_ascending, list_any-put_all}
-use Rattle.bdb_base.proofs.WorldLemmas.{explicit_tuple}
+use Rattle.bdb_base.proofs.WorldLemmas.{explicit_tuple, stands_is_explicit}
+use Rattle.bdb_base.proofs.BoolLemmas.{same_tests}
+use Rattle.bdb_base.proofs.OptionLemmas.{some_of}
+use Rattle.bdb_base.proofs.BaseLemmas.{as_many_values, stated_fits}
 use Rattle.bdb_keep.specs.Seen.{Seen}
 use Rattle.bdb_keep.specs.Tables.{Tables}
 use Rattle.bdb_key.specs.Grammar.{IsNum, ArePlain}
@@ -37,19 +38,15 @@ use Rattle.bdb_tables.specs.Names.{Names, path_of, number_of, is_named}
 use Rattle.bdb_tables.specs.Rows.{Tuples, AreKeyLengths}
 use Rattle.bdb_tables.specs.Spans.{AreUnder}
 use Rattle.bdb_tables.specs.Stored.{StoredAs}
-use Rattle.bdb_tables.specs.Beginnings.{is_written}
 use Rattle.bdb_tables.proofs.Fitting.{relation_row}
-use Rattle.bdb_tables.proofs.SignLemmas.{one_answer, stands_is_explicit}
 use Rattle.bdb_update.proofs.KeyLemmas.{lengths_fit}
 use Rattle.bdb_update.proofs.OneStored.{consistent}
-use Rattle.bdb_update.proofs.StageLemmas.{belongs_parts}
 use Rattle.bdb_update.specs.Keys.{keys_of}
 use Rattle.bdb_val.specs.Reads.{IsSpan}
-use Rattle.bdb_val.proofs.HeldLemmas.{some_is}
-use Rattle.bdb_worlds.specs.Bounds.{RisesWithin}
+use Rattle.bdb_worlds.specs.Bounds.{EndsWithin}
 use Rattle.bdb_catalog.specs.Bases.{HasUsers}
 use Rattle.bdb_catalog.specs.Showing.{FindsState, IsStateOf}
-use Rattle.bdb_catalog.specs.Taking.{AreTuplesRead, AreTuplesOf, beginning, is_asked, is_said, rows_asked, rows_said, statements_of, values_asked}
+use Rattle.bdb_catalog.specs.Taking.{AreTuplesRead, AreTuplesOf, key_prefix, is_asked, is_said, rows_asked, rows_said, statements_of, values_asked}
 use Rattle.bdb_catalog.proofs.AskingLemmas.{meets_asked, asked_rel, asked_span, few_asked, none_meets}
 use Rattle.bdb_catalog.proofs.RowLemmas.{tuples_are_stated, stated_are_read, rows_within, tuples_within, as_many}
 use Rattle.bdb_catalog.proofs.ShowingLemmas.{nothing_explicit}
@@ -200,26 +197,10 @@ module _ (stmts : List Stmt) (w : List ℕ) (s : Sign) (rel : ℕ) (conds : List
       (put_all_is_ascending statement_exact [] (map of_path (filter (meets conds) us)) refl)
       (filter_keeps_order statement_exact (is_taken w s rel conds) stmts up)
       (λ y. list_any-put_all statement_exact (λ z. is_eq (statement_cmp z y)) [] (map of_path (filter (meets conds) us))
-      ∙ one_answer (among y (map of_path (filter (meets conds) us))) (stands_taken y) (made_taken us each y) (taken_made y)
+      ∙ same_tests (among y (map of_path (filter (meets conds) us))) (stands_taken y) (made_taken us each y) (taken_made y)
       ∙ sym (filtered_stands (is_taken w s rel conds) stmts y))
 
 -- ---- keys
-
-as_many_values : (cols : List ColDef) (vals : List Value) → fits_columns cols vals ≡ true → length vals ≡ length cols
-as_many_values [] [] h = refl
-as_many_values [] (v ∷ vals) h = absurd (false≢true h)
-as_many_values (c ∷ cols) [] h = absurd (false≢true h)
-as_many_values (c ∷ cols) (v ∷ vals) h = ap suc (as_many_values cols vals (and_parts (fits_kind c.kind v) (fits_columns cols vals) h).1)
-
--- the tuple of a statement fits its relation
-stated_fits : (c : Catalog) (stmts : List Stmt) (u : Tuple) → list_all (belongs c) stmts ≡ true → list_any (λ x. same_tuple x.tuple u) stmts ≡ true → fits_relation c.rels u ≡ true
-stated_fits c [] u all any = absurd (false≢true any)
-stated_fits c (x ∷ xs) u all any =
-    let k = and_parts (belongs c x) (list_all (belongs c) xs) all in
-    elim (or_cases (same_tuple x.tuple u) (list_any (λ y. same_tuple y.tuple u) xs) any) [
-      | inl e ↦ subst (λ (v : Tuple). fits_relation c.rels v ≡ true) ((same_tuple-Decides x.tuple u).0 e) (belongs_parts c x k.0).tuple
-      | inr e ↦ stated_fits c xs u k.1 e
-    ]
 
 -- and a tuple that fits its relation has all of its key
 whole_key : (b : Contents) → IsValid b.catalog b.stmts → (u : Tuple) → fits_relation b.catalog.rels u ≡ true → keys_of b u.rel ≤ length u.vals
@@ -236,10 +217,10 @@ whole_key b valid u fits = by (slice_get b.catalog.rels u.rel) refl fits
 
 -- ---- what is read
 
-pub one_read_more : (d a b c : ℕ) → RisesWithin (d + 1) a b → RoseBy 1 b c → RisesWithin (d + 2) a c
+pub one_read_more : (d a b c : ℕ) → EndsWithin (d + 1) a b → RoseBy 1 b c → EndsWithin (d + 2) a c
 one_read_more d a b c within one below = let low : b < 2 ^ 64 - 1 = omega arith in let e = within low in omega arith
 
-reads_all : (d r u n m a b c : ℕ) → b ≤ c → RisesWithin (d + 2) a b → c ≤ b + (n + m + 1) → n ≤ r → m ≤ u → RisesWithin (d + r + u + 3) a c
+reads_all : (d r u n m a b c : ℕ) → b ≤ c → EndsWithin (d + 2) a b → c ≤ b + (n + m + 1) → n ≤ r → m ≤ u → EndsWithin (d + r + u + 3) a c
 reads_all d r u n m a b c le first more few fewer below = let e = first (omega arith) in omega arith
 
 module _ (t : Tables) (w : List ℕ) (wid : ℕ) (own : Bool) (state : FindsState t w (wid, own)) (s : Sign) (rel : ℕ) (conds : List Cond) (b : Contents) (has : HasUsers t w b) where
@@ -264,7 +245,7 @@ module _ (t : Tables) (w : List ℕ) (wid : ℕ) (own : Bool) (state : FindsStat
   -- the tuple of a statement may be written
   stated_row : (u : Tuple) → explicit b.stmts w u s ≡ true → IsTupleRow u
   stated_row u x =
-      let number = some_is (ts.number u) (stored.tuples.stated u ∙ explicit_tuple b.stmts w u s x) in
+      let number = some_of (ts.number u) (stored.tuples.stated u ∙ explicit_tuple b.stmts w u s x) in
       let named = stored.tuples.numbered u number.0 number.1 in
       subst (λ o. MatchOption o (Unit {0}) IsTupleRow) named (stored.tuples.tuples.written number.0 (stored.tuples.sized number.0 u named))
 
@@ -276,7 +257,7 @@ module _ (t : Tables) (w : List ℕ) (wid : ℕ) (own : Bool) (state : FindsStat
       none u x r m = absurd (none_meets conds n u (stated_row u x) out m)
 
   module _ (yes : own ≡ true) (nr : IsNum rel) (n : ℕ) (long : IsKeyLength t rel n) (old new : Seen) (same : old.kept ≡ t) (us : List Tuple)
-      (plain : ArePlain (values_asked conds n)) (read : AreTuplesRead old new (beginning n wid rel (values_asked conds n)) s us) where
+      (plain : ArePlain (values_asked conds n)) (read : AreTuplesRead old new (key_prefix n wid rel (values_asked conds n)) s us) where
     lengths : AreKeyLengths (keys_of b)
     lengths = lengths_fit t b.catalog.rels stored.rels
 
@@ -286,8 +267,8 @@ module _ (t : Tables) (w : List ℕ) (wid : ℕ) (own : Bool) (state : FindsStat
     are_plain : ArePlain vs
     are_plain = subst (λ k. ArePlain (values_asked conds k)) (long b.catalog.rels stored.rels) plain
 
-    was_read : AreTuplesRead old new (beginning (keys_of b rel) wid rel vs) s us
-    was_read = subst (λ k. AreTuplesRead old new (beginning k wid rel (values_asked conds k)) s us) (long b.catalog.rels stored.rels) read
+    was_read : AreTuplesRead old new (key_prefix (keys_of b rel) wid rel vs) s us
+    was_read = subst (λ k. AreTuplesRead old new (key_prefix k wid rel (values_asked conds k)) s us) (long b.catalog.rels stored.rels) read
 
     number : number_of ns w ≡ Some wid
     number = ap (number_of ns) (sym (deepest_of_member (is_named ns) w (sym is.own ∙ yes))) ∙ is.number
@@ -298,11 +279,11 @@ module _ (t : Tables) (w : List ℕ) (wid : ℕ) (own : Bool) (state : FindsStat
     small : IsNum wid
     small = stored.states.names.sized w wid number
 
-    span : IsSpan (keys_of b) wid (is_asked (keys_of b) rel vs) (beginning (keys_of b rel) wid rel vs)
+    span : IsSpan (keys_of b) wid (is_asked (keys_of b) rel vs) (key_prefix (keys_of b rel) wid rel vs)
     span = asked_span (keys_of b) lengths wid rel vs small nr (few_asked conds (keys_of b rel)) are_plain
 
-    under : AreUnder val_codec t (beginning (keys_of b rel) wid rel vs) was_read.rows
-    under = subst (λ u. AreUnder val_codec u (beginning (keys_of b rel) wid rel vs) was_read.rows) same was_read.under
+    under : AreUnder val_codec t (key_prefix (keys_of b rel) wid rel vs) was_read.rows
+    under = subst (λ u. AreUnder val_codec u (key_prefix (keys_of b rel) wid rel vs) was_read.rows) same was_read.under
 
     told : AreTuplesOf t (filter (is_said s) was_read.rows) us
     told = subst (λ u. AreTuplesOf u (filter (is_said s) was_read.rows) us) same was_read.told
@@ -316,23 +297,23 @@ module _ (t : Tables) (w : List ℕ) (wid : ℕ) (own : Bool) (state : FindsStat
     read_are_taken =
         statements_are_taken b.stmts w s rel conds us
         (of_rel us (tuples_are_stated (keys_of b) b.stmts ns ts t lengths (consistent b has.base.valid) stored.tuples stored.rows wid small w path s (is_asked (keys_of b) rel vs)
-        (beginning (keys_of b rel) wid rel vs) span was_read.rows us under told))
+        (key_prefix (keys_of b rel) wid rel vs) span was_read.rows us under told))
         (λ u x r m. stated_are_read (keys_of b) b.stmts ns ts t lengths (consistent b has.base.valid) stored.tuples stored.rows wid small w path s (is_asked (keys_of b) rel vs)
-        (beginning (keys_of b rel) wid rel vs) span was_read.rows us under told u x (meets_asked (keys_of b) conds rel u (whole_key b has.base.valid u (stated_fits b.catalog b.stmts u has.base.valid.stmts.belong (explicit_tuple b.stmts w u s x))) r m))
+        (key_prefix (keys_of b rel) wid rel vs) span was_read.rows us under told u x (meets_asked (keys_of b) conds rel u (whole_key b has.base.valid u (stated_fits b.catalog b.stmts u has.base.valid.stmts.belong (explicit_tuple b.stmts w u s x))) r m))
         has.base.valid.stmts.sorted
 
     few_rows : length was_read.rows ≤ length (rows_asked (key_lengths b.catalog.rels) rel conds (world_of (key_lengths b.catalog.rels) b.stmts w))
     few_rows = rows_within (keys_of b) b.stmts ns ts t lengths (consistent b has.base.valid) stored.tuples stored.rows wid small w path s (is_asked (keys_of b) rel vs)
-        (beginning (keys_of b rel) wid rel vs) span was_read.rows under
+        (key_prefix (keys_of b rel) wid rel vs) span was_read.rows under
 
     few_tuples : length us ≤ length (rows_said (key_lengths b.catalog.rels) s rel conds (world_of (key_lengths b.catalog.rels) b.stmts w))
     few_tuples =
         let within = tuples_within (keys_of b) b.stmts ns ts t lengths (consistent b has.base.valid) stored.tuples stored.rows wid small w path s (is_asked (keys_of b) rel vs)
-        (beginning (keys_of b rel) wid rel vs) span was_read.rows us under told in
+        (key_prefix (keys_of b rel) wid rel vs) span was_read.rows us under told in
         subst (λ n. n ≤ length (rows_said (key_lengths b.catalog.rels) s rel conds (world_of (key_lengths b.catalog.rels) b.stmts w))) (sym (as_many t (filter (is_said s) was_read.rows) us told)) within
 
-    pub reads_are_few : (a : ℕ) → old.reads ≤ new.reads → RisesWithin (length w + 2) a old.reads
-        → RisesWithin (length w + length (rows_asked (key_lengths b.catalog.rels) rel conds (world_of (key_lengths b.catalog.rels) b.stmts w))
+    pub reads_are_few : (a : ℕ) → old.reads ≤ new.reads → EndsWithin (length w + 2) a old.reads
+        → EndsWithin (length w + length (rows_asked (key_lengths b.catalog.rels) rel conds (world_of (key_lengths b.catalog.rels) b.stmts w))
         + length (rows_said (key_lengths b.catalog.rels) s rel conds (world_of (key_lengths b.catalog.rels) b.stmts w)) + 3) a new.reads
     reads_are_few a le first =
         reads_all (length w) (length (rows_asked (key_lengths b.catalog.rels) rel conds (world_of (key_lengths b.catalog.rels) b.stmts w)))

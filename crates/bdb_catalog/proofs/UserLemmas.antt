@@ -1,15 +1,16 @@
 -- A user more in the catalog of a stored base.
-use Rattle.std.proofs.Common.{◌≡◌, ◌∙◌, ℕ, ◌+◌, ◌*◌, ◌≤◌, Bool, true, nat_eq, List, [], ◌∷◌, ◌++◌, length, refl, sym, ap, subst, arith, Option, Some}
+use Rattle.std.proofs.Common.{◌≡◌, ◌∙◌, ℕ, ◌+◌, ◌≤◌, Bool, true, nat_eq, List, [], ◌∷◌, ◌++◌, length, refl, sym, ap, subst, Option, Some}
 use Rattle.std.specs.List.{list_all}
 use Rattle.std.specs.FinMap as tables
 use Rattle.std.proofs.lemmas.Bool.{and_parts}
 use Rattle.std.proofs.lemmas.List.Folds.{list_all-append}
 use Rattle.bdb_base.specs.Bases.{Contents, is_plain, is_user, user_names, world_count}
-use Rattle.bdb_base.specs.Causes.{Rises, RoseBy}
+use Rattle.bdb_base.specs.Causes.{RoseBy}
 use Rattle.bdb_base.specs.declared.kinds.UserSlot.{UserSlot}
 use Rattle.bdb_base.specs.declared.kinds.UserSlot.TheVariants.{Live, Gone}
 use Rattle.bdb_base.proofs.BaseLemmas.{names_push}
 use Rattle.bdb_base.proofs.UserLemmas.{next_is_no_user, user_or_new}
+use Rattle.bdb_base.proofs.CauseLemmas.{rises_twice_and_once}
 use Rattle.bdb_keep.specs.Seen.{Seen}
 use Rattle.bdb_keep.specs.Tables.{Tables}
 use Rattle.bdb_key.specs.Grammar.{IsNum, IsPlain}
@@ -86,15 +87,12 @@ user_keeps t m u uid name put adds same h =
 
 -- ---- how many rows come
 
-user_and_edges : (n k a b c : ℕ) → b ≤ c → n ≡ k → RoseBy 1 a b → Rises (2 * n) b c → Rises (2 * k + 1) a c
-user_and_edges n k a b c le same one edges below = let e = edges below in omega arith
-
 pub user_written : (old mid new : Seen) (uid : ℕ) (name : List ℕ) → mid.kept ≡ tables.insert old.kept (place user_codec uid) (user_codec.row_bytes (Live name))
     → mid.writes ≤ new.writes → RoseBy 1 old.writes mid.writes → WritesEdges mid new uid → WritesUser old new uid name
 user_written old mid new uid name put le one edges b h =
     let s = h.base.stored in
     let before = states_before old.kept mid.kept uid name put b h in
-    user_and_edges (length s.names.used) (world_count b.stmts) old.writes mid.writes new.writes le
+    rises_twice_and_once (length s.names.used) (world_count b.stmts) old.writes mid.writes new.writes le
     (numbers_are_counted s.names s.stored.states.names b.stmts s.stored.worlds) one
     (edges (record { users = is_user b.catalog.users; names = s.names }) before (next_is_no_user b.catalog.users uid h.next))
 

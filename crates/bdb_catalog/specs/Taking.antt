@@ -26,8 +26,8 @@ use Rattle.bdb_tables.specs.Codec.{HasRow}
 use Rattle.bdb_tables.specs.InUse.{ValKey, tuple_codec, val_codec}
 use Rattle.bdb_tables.specs.Marks.{Mark}
 use Rattle.bdb_tables.specs.Spans.{AreUnder}
-use Rattle.bdb_tables.specs.Beginnings.{led_by}
-use Rattle.bdb_worlds.specs.Bounds.{RisesWithin}
+use Rattle.bdb_tables.specs.Prefixes.{led_by}
+use Rattle.bdb_worlds.specs.Bounds.{EndsWithin}
 use Rattle.bdb_catalog.specs.Bases.{HasUsers}
 
 -- whichever valid base the tables store with the users of a path, these are the statements of it that are taken
@@ -54,14 +54,14 @@ abbrev pub value_asked : List Cond → ℕ → Option Value
 value_asked [] col = None
 value_asked (c ∷ cs) col = first_there (value_of_test c col) (value_asked cs col)
 
--- ---- beginnings of keys
+-- ---- prefixes of keys
 
 -- the values that are asked for of at most so many columns from one on, up to the first of which none is asked for
 abbrev pub values_from : List Cond → ℕ → ℕ → List Value
 values_from conds zero col = []
 values_from conds (suc most) col = led_by (value_asked conds col) (values_from conds most (suc col))
 
--- the values that are asked for of the first columns of a key that has so many: as long a beginning of the key as there is
+-- the values that are asked for of the first columns of a key that has so many: as long a prefix of the key as there is
 abbrev pub values_asked : List Cond → ℕ → List Value
 values_asked conds n = values_from conds n 0
 
@@ -74,8 +74,8 @@ abbrev pub is_asked : (ℕ → ℕ) → ℕ → List Value → Tuple → Bool
 is_asked keys rel vs u = nat_eq u.rel rel && starts_with (keys rel) vs (key_of keys u)
 
 -- how the keys of a world's rows of a relation begin whose tuples have a key of some length that begins with these values
-abbrev pub beginning : ℕ → ℕ → ℕ → List Value → List ℕ
-beginning n wid rel vs = num_bytes wid ++ num_bytes rel ++ num_bytes n ++ values_bytes vs
+abbrev pub key_prefix : ℕ → ℕ → ℕ → List Value → List ℕ
+key_prefix n wid rel vs = num_bytes wid ++ num_bytes rel ++ num_bytes n ++ values_bytes vs
 
 -- ---- rows and their tuples
 
@@ -116,5 +116,5 @@ rows_said keys s rel conds rows = filter (λ h. is_asked keys rel (values_asked 
 -- with the sign, and three, at most: of how deep the path's state is, of the relation's key, and of no row behind the last.
 abbrev pub ReadsTaken : Seen → Seen → List ℕ → Sign → ℕ → List Cond → Type 0
 ReadsTaken old new w s rel conds = (b : Contents) → HasUsers old.kept w b
-    → RisesWithin (length w + length (rows_asked (key_lengths b.catalog.rels) rel conds (world_of (key_lengths b.catalog.rels) b.stmts w))
+    → EndsWithin (length w + length (rows_asked (key_lengths b.catalog.rels) rel conds (world_of (key_lengths b.catalog.rels) b.stmts w))
     + length (rows_said (key_lengths b.catalog.rels) s rel conds (world_of (key_lengths b.catalog.rels) b.stmts w)) + 3) old.reads new.reads

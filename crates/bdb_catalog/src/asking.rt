@@ -2,9 +2,10 @@
 ghost use Rattle.std.specs.Prelude.{◌≡◌, IfOk};
 ghost use Rattle.std.specs.Option.{option_copied};
 ghost use Rattle.bdb_catalog.specs.Taking.{asks_for, literal_of, value_asked, value_of_test, values_asked};
-ghost use Rattle.bdb_tables.specs.Beginnings.{HasPutValues, is_written};
+ghost use Rattle.bdb_base.specs.Bases.{is_written};
+ghost use Rattle.bdb_tables.specs.Prefixes.{HasPutValues};
 
-use bdb_base::{Cmp, Cond, Operand, Value, is_plain};
+use bdb_base::{Cmp, Cond, Operand, Value, is_written};
 use bdb_key::put_value;
 use std::alloc::AllocError;
 
@@ -72,15 +73,5 @@ fn literal_of(operand: &Operand) -> Option<&Value>
     match operand {
         Operand::Col(_) => None,
         Operand::Lit(value) => Some(value),
-    }
-}
-
-// Whether a value is one that tuples may have: a text has to be plain.
-fn is_written(value: &Value) -> bool
-    ensures { result ≡ is_written value.now }
-{
-    match value {
-        Value::Int(_) => true,
-        Value::Text(text) => is_plain(text),
     }
 }

@@ -3,7 +3,7 @@ ghost use Rattle.std.specs.Prelude.{◌≡◌, ◌+◌, true, length, IfOk, OnOk
 ghost use Rattle.bdb_base.specs.Alternation.{alternates};
 ghost use Rattle.bdb_keep.specs.Seen.{NeverFall, Steps};
 ghost use Rattle.bdb_tables.specs.Grammar.{InGrammar};
-ghost use Rattle.bdb_worlds.specs.Bounds.{RisesWithin};
+ghost use Rattle.bdb_worlds.specs.Bounds.{EndsWithin};
 ghost use Rattle.bdb_worlds.specs.Holding.{HoldSome};
 ghost use Rattle.bdb_catalog.specs.Showing.{FindsState, PlainPathsInherit};
 
@@ -23,7 +23,7 @@ pub fn state_of<K: Keeper>(
     requires states { HoldSome (K.seen keeper.old).kept path.now }
     requires apart { alternates path.now ≡ true }
     ensures found { IfOk result (FindsState (K.seen keeper.old).kept path.now) }
-    ensures reads { OnOk result (RisesWithin (length path.now + 1) (K.seen keeper.old).reads
+    ensures reads { OnOk result (EndsWithin (length path.now + 1) (K.seen keeper.old).reads
         (K.seen keeper.new).reads) }
     ensures kept { OnOk result ((K.seen keeper.new).kept ≡ (K.seen keeper.old).kept) }
     ensures writes { (K.seen keeper.new).writes ≡ (K.seen keeper.old).writes }

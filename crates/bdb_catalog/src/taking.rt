@@ -4,7 +4,7 @@ ghost use Rattle.bdb_keep.specs.Calls.{IsRead};
 ghost use Rattle.bdb_keep.specs.Seen.{NeverFall, Steps};
 ghost use Rattle.bdb_key.specs.Bytes.{num_bytes};
 ghost use Rattle.bdb_tables.specs.Grammar.{InGrammar};
-ghost use Rattle.bdb_tables.specs.Beginnings.{HasPutValues};
+ghost use Rattle.bdb_tables.specs.Prefixes.{HasPutValues};
 ghost use Rattle.bdb_val.specs.Reads.{HaveTuples};
 ghost use Rattle.bdb_catalog.specs.Bases.{SomeHasUsers};
 ghost use Rattle.bdb_catalog.specs.Taking.{AreTaken, AreTuplesRead, ReadsTaken, is_said, statements_of, values_asked};
@@ -52,7 +52,7 @@ pub fn taken<K: Keeper>(
     };
     let conds = conds.as_slice();
     let mut prefix = Vec::new(alloc);
-    match put_beginning(&mut prefix, wid, rel, n, conds) {
+    match put_key_prefix(&mut prefix, wid, rel, n, conds) {
         Ok(true) => {}
         Ok(false) => return Ok(List::new(alloc)),
         Err(_) => {
@@ -75,7 +75,7 @@ pub fn taken<K: Keeper>(
 
 // How the keys of those of a world's rows of a relation begin whose tuples have a key of the length `n` that begins with the
 // values that tests ask for. False where one of these is a value that no tuple has.
-fn put_beginning(
+fn put_key_prefix(
     prefix: &mut Vec<u8>,
     wid: u32,
     rel: u32,

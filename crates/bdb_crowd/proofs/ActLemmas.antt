@@ -5,19 +5,20 @@ use Rattle.std.specs.Io.KnownBytes.{Appends}
 use Rattle.std.proofs.lemmas.List.{append-nil, length-map, length-take}
 use Rattle.bdb_base.specs.Causes.{Rises}
 use Rattle.bdb_base.specs.Texts.{line}
+use Rattle.bdb_base.proofs.BoolLemmas.{not_twice}
 use Rattle.bdb_events.specs.Forms.{NamesSession}
 use Rattle.bdb_events.specs.declared.read.Read.{Read}
 use Rattle.bdb_keep.specs.Seen.{Seen, Unchanged}
 use Rattle.bdb_keep.specs.Tables.{Tables}
 use Rattle.bdb_many.specs.Many.{end_text, rest_reply}
-use Rattle.bdb_many.specs.Marks.{mark, marked, told}
+use Rattle.bdb_many.specs.Labels.{label, labelled, told}
 use Rattle.bdb_multi.specs.declared.kinds.Act.{Act}
 use Rattle.bdb_multi.specs.declared.kinds.Act.TheVariants.{Begun, Queued, Aborted, ErrBegun, ErrNotBegun, ErrBatch, One, Batch}
 use Rattle.bdb_multi.specs.declared.kinds.Event.{Event}
 use Rattle.bdb_multi.specs.declared.kinds.Line.{Line}
 use Rattle.bdb_multi.specs.declared.kinds.Line.TheVariants.{Begin, Commit, Abort, Cmd}
 use Rattle.bdb_multi.specs.Sessions.{Commands, act_after, act_by, mine, most_queued, open_batch}
-use Rattle.bdb_multi.specs.Slots.{StandsFor}
+use Rattle.bdb_multi.specs.Slots.{AreSlotsOf}
 use Rattle.bdb_session.specs.Batches.{pieces, before_refused, batch_commits, batch_state, batch_text, IsBatchReply}
 use Rattle.bdb_session.specs.Known.{Known, Agrees, RemembersSome}
 use Rattle.bdb_session.specs.Machine.{accepts, next_state}
@@ -99,31 +100,27 @@ pub run_by : (s : State) (q : Commands) (r : BatchReply) (now : Known) (first la
     → IsRunBy s q now first last (Ok r)
 run_by s q r now first last refused accepted text next commits = (record { refused = refused; accepted = accepted; text = text }, record { agrees = next; rises = commits })
 
-not_not : (b : Bool) → not (not b) ≡ b
-not_not true = refl
-not_not false = refl
-
 fine_by : (refused whole : Bool) → refused ≡ not whole → not refused ≡ whole
-fine_by refused whole is = ap not is ∙ not_not whole
+fine_by refused whole is = ap not is ∙ not_twice whole
 
 one_due : (s : State) (n : ℕ) (c : List ℕ) (now : Known) (first last : Seen) (r : BatchReply) → IsRunBy s (c ∷ []) now first last (Ok r)
-    → Lands (due_to s n (One c)).next (due_to s n (One c)).commits now first last × (not r.refused ≡ (due_to s n (One c)).fine) × (marked n r.text ≡ (due_to s n (One c)).reply)
+    → Lands (due_to s n (One c)).next (due_to s n (One c)).commits now first last × (not r.refused ≡ (due_to s n (One c)).fine) × (labelled n r.text ≡ (due_to s n (One c)).reply)
 one_due s n c now first last r h = (
   record { agrees = h.1.agrees; rises = h.1.rises },
   fine_by r.refused (accepts_all s (pieces (c ∷ []))) h.0.refused,
-  ap (marked n) h.0.text,
+  ap (labelled n) h.0.text,
 )
 
 module _ (s : State) (n : ℕ) (c : List ℕ) (lines : Commands) (now : Known) (first last : Seen) (old new : Option (List ℕ)) (r : BatchReply) (is : lines ≡ c ∷ []) (h : IsRunBy s lines now first last (Ok r)) where
-  pub one_done : Appends old new (marked n r.text) → IsDone s (due_to s n (One c)) now first last old new (Ok (not r.refused))
+  pub one_done : Appends old new (labelled n r.text) → IsDone s (due_to s n (One c)) now first last old new (Ok (not r.refused))
   one_done w =
       let d = one_due s n c now first last r (subst (λ (q : Commands). IsRunBy s q now first last (Ok r)) is h) in
-      (d.0, d.1, grows_as old new (marked n r.text) (due_to s n (One c)).reply d.2 w)
+      (d.0, d.1, grows_as old new (labelled n r.text) (due_to s n (One c)).reply d.2 w)
 
-  pub one_part : (k : ℕ) × (k ≤ length (marked n r.text)) × Appends old new (take k (marked n r.text)) → IsDone s (due_to s n (One c)) now first last old new (Err Sink)
+  pub one_part : (k : ℕ) × (k ≤ length (labelled n r.text)) × Appends old new (take k (labelled n r.text)) → IsDone s (due_to s n (One c)) now first last old new (Err Sink)
   one_part w =
       let d = one_due s n c now first last r (subst (λ (q : Commands). IsRunBy s q now first last (Ok r)) is h) in
-      (d.0, (w.0, grows_as old new (take w.0 (marked n r.text)) (take w.0 (due_to s n (One c)).reply) (ap (take w.0) d.2) w.2))
+      (d.0, (w.0, grows_as old new (take w.0 (labelled n r.text)) (take w.0 (due_to s n (One c)).reply) (ap (take w.0) d.2) w.2))
 
 flipped : {X : Type 0} (b : Bool) (x y : X) → cond (not b) x y ≡ cond b y x
 flipped true x y = refl
@@ -140,23 +137,23 @@ end_is s n q r count h many =
 
 batch_due : (s : State) (n : ℕ) (q : Commands) (now : Known) (first last : Seen) (r : BatchReply) (count : ℕ) → IsRunBy s q now first last (Ok r) → count ≡ length q
     → Lands (due_to s n (Batch q)).next (due_to s n (Batch q)).commits now first last × (not r.refused ≡ (due_to s n (Batch q)).fine)
-    × (marked n r.text ++ end_line n r.refused r.accepted count ≡ (due_to s n (Batch q)).reply)
+    × (labelled n r.text ++ end_line n r.refused r.accepted count ≡ (due_to s n (Batch q)).reply)
 batch_due s n q now first last r count h many = (
   record { agrees = h.1.agrees; rises = h.1.rises },
   fine_by r.refused (accepts_all s (pieces q)) h.0.refused,
-  ap (λ t. marked n t ++ end_line n r.refused r.accepted count) h.0.text ∙ ap (λ t. marked n (batch_text s (pieces q)) ++ t) (end_is s n q r count h.0 many),
+  ap (λ t. labelled n t ++ end_line n r.refused r.accepted count) h.0.text ∙ ap (λ t. labelled n (batch_text s (pieces q)) ++ t) (end_is s n q r count h.0 many),
 )
 
 module _ (s : State) (n : ℕ) (q : Commands) (now : Known) (first last : Seen) (old new : Option (List ℕ)) (r : BatchReply) (count : ℕ) (h : IsRunBy s q now first last (Ok r)) (many : count ≡ length q) where
-  pub batch_done : Appends old new (marked n r.text ++ end_line n r.refused r.accepted count) → IsDone s (due_to s n (Batch q)) now first last old new (Ok (not r.refused))
+  pub batch_done : Appends old new (labelled n r.text ++ end_line n r.refused r.accepted count) → IsDone s (due_to s n (Batch q)) now first last old new (Ok (not r.refused))
   batch_done w =
       let d = batch_due s n q now first last r count h many in
-      (d.0, d.1, grows_as old new (marked n r.text ++ end_line n r.refused r.accepted count) (due_to s n (Batch q)).reply d.2 w)
+      (d.0, d.1, grows_as old new (labelled n r.text ++ end_line n r.refused r.accepted count) (due_to s n (Batch q)).reply d.2 w)
 
-  pub batch_part : (k : ℕ) × (k ≤ length (marked n r.text ++ end_line n r.refused r.accepted count)) × Appends old new (take k (marked n r.text ++ end_line n r.refused r.accepted count))
+  pub batch_part : (k : ℕ) × (k ≤ length (labelled n r.text ++ end_line n r.refused r.accepted count)) × Appends old new (take k (labelled n r.text ++ end_line n r.refused r.accepted count))
       → IsDone s (due_to s n (Batch q)) now first last old new (Err Sink)
   batch_part w =
-      let text = marked n r.text ++ end_line n r.refused r.accepted count in
+      let text = labelled n r.text ++ end_line n r.refused r.accepted count in
       let d = batch_due s n q now first last r count h many in
       (d.0, (w.0, grows_as old new (take w.0 text) (take w.0 (due_to s n (Batch q)).reply) (ap (take w.0) d.2) w.2))
 
@@ -172,11 +169,11 @@ unrun s act n q now first last old Large other h none = (h, none)
 regroup : (m t d : List ℕ) → (m ++ t) ++ (d ++ 10 ∷ []) ≡ m ++ ((t ++ d) ++ 10 ∷ [])
 regroup m t d = append_assoc m t (d ++ 10 ∷ []) ∙ ap (λ l. m ++ l) (sym (append_assoc t d (10 ∷ [])))
 
-pub end_aborted : (n : ℕ) (refused : Bool) (accepted count : ℕ) → refused ≡ true → (mark n ++ codes "aborted ") ++ (decimal (accepted + 1) ++ 10 ∷ []) ≡ end_line n refused accepted count
-end_aborted n refused accepted count is = regroup (mark n) (codes "aborted ") (decimal (accepted + 1)) ∙ ap (λ b. end_line n b accepted count) (sym is)
+pub end_aborted : (n : ℕ) (refused : Bool) (accepted count : ℕ) → refused ≡ true → (label n ++ codes "aborted ") ++ (decimal (accepted + 1) ++ 10 ∷ []) ≡ end_line n refused accepted count
+end_aborted n refused accepted count is = regroup (label n) (codes "aborted ") (decimal (accepted + 1)) ∙ ap (λ b. end_line n b accepted count) (sym is)
 
-pub end_committed : (n : ℕ) (refused : Bool) (accepted count : ℕ) → refused ≡ false → (mark n ++ codes "committed ") ++ (decimal count ++ 10 ∷ []) ≡ end_line n refused accepted count
-end_committed n refused accepted count is = regroup (mark n) (codes "committed ") (decimal count) ∙ ap (λ b. end_line n b accepted count) (sym is)
+pub end_committed : (n : ℕ) (refused : Bool) (accepted count : ℕ) → refused ≡ false → (label n ++ codes "committed ") ++ (decimal count ++ 10 ∷ []) ≡ end_line n refused accepted count
+end_committed n refused accepted count is = regroup (label n) (codes "committed ") (decimal count) ∙ ap (λ b. end_line n b accepted count) (sym is)
 
 -- ---- what waits
 
@@ -218,11 +215,11 @@ due_line s text fine = record { reply = text; fine = fine; next = s; commits = 0
 -- where what is due was done, and what waits is what the events leave open, it was answered
 pub due_answers : (p : Point) (a : Asked) (d : Due) (hand : AtHand) (first last : Seen) (old new : Option (List ℕ)) (result : Result Bool RunError)
     → d ≡ due_of p a
-    → IsDone p.state d hand.session first last old new result → OnOk result (StandsFor hand.slots (next_point p a).before) → IsAnswer p a hand first last old new result
+    → IsDone p.state d hand.session first last old new result → OnOk result (AreSlotsOf hand.slots (next_point p a).before) → IsAnswer p a hand first last old new result
 due_answers p a d hand first last old new result is done stands =
     by_result result (subst (λ (x : Due). IsDone p.state x hand.session first last old new result) is done) stands
   where
-    by_result : (r : Result Bool RunError) → IsDone p.state (due_of p a) hand.session first last old new r → OnOk r (StandsFor hand.slots (next_point p a).before) → IsAnswer p a hand first last old new r
+    by_result : (r : Result Bool RunError) → IsDone p.state (due_of p a) hand.session first last old new r → OnOk r (AreSlotsOf hand.slots (next_point p a).before) → IsAnswer p a hand first last old new r
     by_result (Ok fine) h s = record { carried = lands_carried p a hand.session first last h.0; stands = s; written = h.2; told_fine = h.1 }
     by_result (Err Sink) h s = (lands_carried p a hand.session first last h.0, h.1)
     by_result (Err Source) h s = (stays_carried p hand.session first last h.0, h.1)
@@ -233,11 +230,11 @@ due_answers p a d hand first last old new result is done stands =
 -- an act was answered, which is that of an event
 pub event_answers : (p : Point) (n : ℕ) (l : Line) (act : Act) (hand : AtHand) (first last : Seen) (old new : Option (List ℕ)) (result : Result Bool RunError)
     → act ≡ act_after p.before (record { session = n; line = l }) → IsDone p.state (due_to p.state n act) hand.session first last old new result
-    → StandsFor hand.slots (p.before ++ record { session = n; line = l } ∷ []) → IsAnswer p (piece (Read.Event (record { session = n; line = l }))) hand first last old new result
+    → AreSlotsOf hand.slots (p.before ++ record { session = n; line = l } ∷ []) → IsAnswer p (piece (Read.Event (record { session = n; line = l }))) hand first last old new result
 event_answers p n l act hand first last old new result is done stands =
     due_answers p (piece (Read.Event (record { session = n; line = l }))) (due_to p.state n act) hand first last old new result (ap (due_to p.state n) is) done (on_ok result stands)
   where
-    on_ok : (r : Result Bool RunError) → StandsFor hand.slots (p.before ++ record { session = n; line = l } ∷ []) → OnOk r (StandsFor hand.slots (p.before ++ record { session = n; line = l } ∷ []))
+    on_ok : (r : Result Bool RunError) → AreSlotsOf hand.slots (p.before ++ record { session = n; line = l } ∷ []) → OnOk r (AreSlotsOf hand.slots (p.before ++ record { session = n; line = l } ∷ []))
     on_ok (Ok b) s = s
     on_ok (Err e) s = tt
 
@@ -246,9 +243,9 @@ pub line_answers : (p : Point) (a : Asked) (text : List ℕ) (fine : Bool) (hand
     → due_line p.state text fine ≡ due_of p a → (next_point p a).before ≡ p.before ++ [] → IsAt now.kept hand p → IsTold text fine old new result → IsAnswer p a hand now now old new result
 line_answers p a text fine hand now old new result is kept at h =
     due_answers p a (due_line p.state text fine) hand now now old new result is (told_done p.state text fine hand.session now old new result at.agrees h)
-    (on_ok result (subst (StandsFor hand.slots) (sym (kept ∙ append-nil p.before)) at.stands))
+    (on_ok result (subst (AreSlotsOf hand.slots) (sym (kept ∙ append-nil p.before)) at.stands))
   where
-    on_ok : (r : Result Bool RunError) → StandsFor hand.slots (next_point p a).before → OnOk r (StandsFor hand.slots (next_point p a).before)
+    on_ok : (r : Result Bool RunError) → AreSlotsOf hand.slots (next_point p a).before → OnOk r (AreSlotsOf hand.slots (next_point p a).before)
     on_ok (Ok b) s = s
     on_ok (Err e) s = tt
 

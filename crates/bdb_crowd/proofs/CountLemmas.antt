@@ -4,7 +4,6 @@ use Rattle.std.proofs.lemmas.Bool.{cases_Bool, cond-true, cond-false, le-ltb, lt
 use Rattle.bdb_events.specs.Pieces.{read_of}
 use Rattle.bdb_events.specs.declared.read.Read.{Read}
 use Rattle.bdb_lex.specs.Cut.{pieces_of, has_rest, rest_of}
-use Rattle.bdb_lex.specs.declared.token.Piece.{Piece}
 use Rattle.bdb_many.specs.Many.{act_next, after_batches, events_in}
 use Rattle.bdb_multi.specs.Batches.{Ran, ran_at, ran_from, run_of}
 use Rattle.bdb_multi.specs.Sessions.{Commands, act_after, acts_from}
@@ -14,12 +13,13 @@ use Rattle.bdb_multi.specs.declared.kinds.Event.{Event}
 use Rattle.bdb_session.specs.Batches.{pieces, batch_state}
 use Rattle.bdb_session.specs.Outcome.{State}
 use Rattle.bdb_session.specs.Runs.{accepts_all, after as after_events}
-use Rattle.bdb_crowd.specs.Asked.{Asked, Point, after, asked_by, commits_by, committed, next_point, piece, rest_asks, start_at, unfinished}
+use Rattle.bdb_crowd.specs.Asked.{Asked, Point, after, commits_by, committed, next_point, piece, rest_asks, start_at, unfinished}
 use Rattle.bdb_crowd.specs.Carried.{by_crowd, crowd_in_order}
 use Rattle.bdb_crowd.specs.Counted.{before_commit, committed_among, first_committed}
 use Rattle.bdb_crowd.specs.Due.{act_commits, commits_of, session_batches}
 use Rattle.bdb_crowd.specs.Laws.{CommitsTellTheState, FirstBatchesLead, IsToldByCommits}
 use Rattle.bdb_stream.proofs.CommitLemmas.{all_told, no_more_told, state_told}
+use Rattle.bdb_crowd.proofs.LawLemmas.{asks_of}
 
 -- ---- what commits nothing leaves the state
 
@@ -177,10 +177,6 @@ reads_lead (Read.Event e ∷ rs) s place before holds k =
     let rest = ran_from (suc place) (events_in rs) (acts_from (before ++ e ∷ []) (events_in rs)) in
     act_step act k place e.session (point_of s before) (piece (Read.Event e)) (map piece rs ++ rest_asks (rest_of holds)) rest refl refl
     (λ j. reads_lead rs (act_next session_batches s act) (suc place) (before ++ e ∷ []) holds j)
-
-asks_of : (ps : List Piece) → map asked_by ps ≡ map piece (map read_of ps)
-asks_of [] = refl
-asks_of (q ∷ ps) = ap (λ l. piece (read_of q) ∷ l) (asks_of ps)
 
 pub first_batches_lead : FirstBatchesLead
 first_batches_lead k s script =

@@ -17,7 +17,7 @@ use Rattle.bdb_crowd.specs.Asked.{Asked, Point, after, asked_by, commits_by, com
 use Rattle.bdb_crowd.specs.Due.{act_commits, session_batches}
 use Rattle.bdb_crowd.specs.Laws.{StreamsComeTo, committed_of}
 
-asks_of : (ps : List Piece) → map asked_by ps ≡ map piece (map read_of ps)
+pub asks_of : (ps : List Piece) → map asked_by ps ≡ map piece (map read_of ps)
 asks_of [] = refl
 asks_of (p ∷ ps) = ap (λ l. piece (read_of p) ∷ l) (asks_of ps)
 

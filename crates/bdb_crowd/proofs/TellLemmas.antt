@@ -11,8 +11,8 @@ use Rattle.bdb_base.specs.Texts.{line}
 use Rattle.bdb_events.specs.declared.read.Read.{Read}
 use Rattle.bdb_lex.specs.Spans.{lacks}
 use Rattle.bdb_many.specs.Many.{Batches, act_next, act_reply, end_text}
-use Rattle.bdb_many.specs.Marks.{mark, marked, marked_from, told}
-use Rattle.bdb_many.proofs.MarkLemmas.{one_line}
+use Rattle.bdb_many.specs.Labels.{label, labelled, labelled_from, told}
+use Rattle.bdb_many.proofs.LabelLemmas.{one_line}
 use Rattle.bdb_multi.specs.Sessions.{Commands, act_after}
 use Rattle.bdb_multi.specs.declared.kinds.Act.{Act}
 use Rattle.bdb_multi.specs.declared.kinds.Act.TheVariants.{Begun, Queued, Aborted, ErrBegun, ErrNotBegun, ErrBatch, One, Batch}
@@ -31,10 +31,10 @@ use Rattle.bdb_crowd.specs.Asked.{Asked, Point, all_fine, is_fine, next_point, p
 use Rattle.bdb_crowd.specs.Due.{act_is_fine, session_batches}
 use Rattle.bdb_crowd.specs.TellsErrors.{RepliesTellErrors, StreamsTellErrors, behind_digits, has_error, tells_any_error, tells_session_error}
 
--- ---- lines with a mark
+-- ---- lines with a label
 
-mark_flat : (n : ℕ) → IsFlat (mark n)
-mark_flat n = flat_append (decimal n) (codes ": ") (decimal_flat n) refl
+label_flat : (n : ℕ) → IsFlat (label n)
+label_flat n = flat_append (decimal n) (codes ": ") (decimal_flat n) refl
 
 behind_all : (ds t : List ℕ) → list_all is_ascii_digit ds ≡ true → behind_digits ((ds ++ codes ": ") ++ t) ≡ codes ": " ++ t
 behind_all [] t h = refl
@@ -43,23 +43,23 @@ behind_all (d ∷ ds) t h =
     let rest = (ds ++ codes ": ") ++ t in
     cond-true (is_ascii_digit d) (behind_digits rest) (d ∷ rest) k.0 ∙ behind_all ds t k.1
 
--- a marked line tells a session an error exactly where the line tells one
-marked_tells : (ds t : List ℕ) → are_digits ds ≡ true → tells_session_error ((ds ++ codes ": ") ++ t) ≡ tells_error t
-marked_tells [] t h = absurd (false≢true h)
-marked_tells (d ∷ ds) t h =
+-- a labelled line tells a session an error exactly where the line tells one
+labelled_tells : (ds t : List ℕ) → are_digits ds ≡ true → tells_session_error ((ds ++ codes ": ") ++ t) ≡ tells_error t
+labelled_tells [] t h = absurd (false≢true h)
+labelled_tells (d ∷ ds) t h =
     let k = and_parts (is_ascii_digit d) (list_all is_ascii_digit ds) h in
     ap (λ b. b && is_prefix (codes ": error ") (behind_digits ((ds ++ codes ": ") ++ t))) k.0 ∙ ap (is_prefix (codes ": error ")) (behind_all ds t k.1)
 
-told_tells : (n : ℕ) (t : List ℕ) → tells_any_error (mark n ++ t) ≡ tells_error t
+told_tells : (n : ℕ) (t : List ℕ) → tells_any_error (label n ++ t) ≡ tells_error t
 told_tells n t =
-    ap (λ b. b || tells_session_error (mark n ++ t)) (ap tells_error (append_assoc (decimal n) (codes ": ") t) ∙ digits_tell_none (decimal n) (codes ": " ++ t) (decimal_digits n))
-    ∙ marked_tells (decimal n) t (decimal_digits n)
+    ap (λ b. b || tells_session_error (label n ++ t)) (ap tells_error (append_assoc (decimal n) (codes ": ") t) ∙ digits_tell_none (decimal n) (codes ": " ++ t) (decimal_digits n))
+    ∙ labelled_tells (decimal n) t (decimal_digits n)
 
 -- the lines of a text that a line begins
-told_lines : (n : ℕ) (t rest : List ℕ) → IsFlat t → lines_of (told n t ++ rest) ≡ (mark n ++ t) ∷ lines_of rest
+told_lines : (n : ℕ) (t rest : List ℕ) → IsFlat t → lines_of (told n t ++ rest) ≡ (label n ++ t) ∷ lines_of rest
 told_lines n t rest h =
-    ap lines_of (append_assoc (mark n) (line t) rest ∙ ap (λ x. mark n ++ x) (append_assoc t (10 ∷ []) rest) ∙ sym (append_assoc (mark n) t (10 ∷ rest)))
-    ∙ lines_before (mark n ++ t) rest (flat_append (mark n) t (mark_flat n) h)
+    ap lines_of (append_assoc (label n) (line t) rest ∙ ap (λ x. label n ++ x) (append_assoc t (10 ∷ []) rest) ∙ sym (append_assoc (label n) t (10 ∷ rest)))
+    ∙ lines_before (label n ++ t) rest (flat_append (label n) t (label_flat n) h)
 
 -- behind a line without an error
 behind_told : (n : ℕ) (t rest : List ℕ) → is_quiet t ≡ true → has_error (told n t ++ rest) ≡ has_error rest
@@ -97,9 +97,9 @@ first_line b (c ∷ front) y h =
       are = ap (λ x. before_lines x b (lines_of (c ∷ (front ++ y)))) (not-true (nat_eq b 10) k.0) ∙ ap (before_lines false b) f.are;
     }
 
-marked_error : (ds y : List ℕ) → are_digits ds ≡ true → lacks 10 ds ≡ true → has_error ((ds ++ codes ": ") ++ (codes "error " ++ y)) ≡ true
-marked_error [] y h flat = absurd (false≢true h)
-marked_error (d ∷ ds) y h flat =
+labelled_error : (ds y : List ℕ) → are_digits ds ≡ true → lacks 10 ds ≡ true → has_error ((ds ++ codes ": ") ++ (codes "error " ++ y)) ≡ true
+labelled_error [] y h flat = absurd (false≢true h)
+labelled_error (d ∷ ds) y h flat =
     let front = (ds ++ codes ": ") ++ codes "error " in
     let whole = (d ∷ ds) ++ codes ": " in
     let f = first_line d front y (flat_append whole (codes "error ") (flat_append (d ∷ ds) (codes ": ") flat refl) refl) in
@@ -107,10 +107,10 @@ marked_error (d ∷ ds) y h flat =
     ∙ (ap (list_any tells_any_error) f.are
     ∙ ap (λ b. b || list_any tells_any_error f.more)
     (or_right (tells_error ((d ∷ front) ++ f.rest)) (tells_session_error ((d ∷ front) ++ f.rest))
-    (ap tells_session_error (append_assoc whole (codes "error ") f.rest) ∙ marked_tells (d ∷ ds) (codes "error " ++ f.rest) h)))
+    (ap tells_session_error (append_assoc whole (codes "error ") f.rest) ∙ labelled_tells (d ∷ ds) (codes "error " ++ f.rest) h)))
 
-told_error : (n : ℕ) (y : List ℕ) → has_error (mark n ++ (codes "error " ++ y)) ≡ true
-told_error n y = marked_error (decimal n) y (decimal_digits n) (decimal_flat n)
+told_error : (n : ℕ) (y : List ℕ) → has_error (label n ++ (codes "error " ++ y)) ≡ true
+told_error n y = labelled_error (decimal n) y (decimal_digits n) (decimal_flat n)
 
 plain_error : (y : List ℕ) → has_error (codes "error " ++ y) ≡ true
 plain_error y = first (lines_of y)
@@ -122,37 +122,37 @@ plain_error y = first (lines_of y)
 
 -- ---- what a batch is told
 
--- lines and what stands behind them, with marks
-marked_lines : (n : ℕ) (texts : List (List ℕ)) (last : List ℕ) → list_all (lacks 10) texts ≡ true
-    → marked n (flat_map line texts ++ last) ≡ flat_map (told n) texts ++ marked n last
-marked_lines n [] last h = refl
-marked_lines n (t ∷ ts) last h =
+-- lines and what stands behind them, with labels
+labelled_lines : (n : ℕ) (texts : List (List ℕ)) (last : List ℕ) → list_all (lacks 10) texts ≡ true
+    → labelled n (flat_map line texts ++ last) ≡ flat_map (told n) texts ++ labelled n last
+labelled_lines n [] last h = refl
+labelled_lines n (t ∷ ts) last h =
     let k = and_parts (lacks 10 t) (list_all (lacks 10) ts) h in
     let behind = flat_map line ts ++ last in
-    let rest = flat_map (told n) ts ++ marked n last in
-    ap (marked n) (append_assoc (line t) (flat_map line ts) last ∙ append_assoc t (10 ∷ []) behind)
-    ∙ (one_line (mark n) t behind k.0
-    ∙ (ap (λ v. mark n ++ (t ++ 10 ∷ v)) (marked_lines n ts last k.1)
-    ∙ (ap (λ v. mark n ++ v) (sym (append_assoc t (10 ∷ []) rest))
-    ∙ (sym (append_assoc (mark n) (line t) rest) ∙ sym (append_assoc (told n t) (flat_map (told n) ts) (marked n last))))))
+    let rest = flat_map (told n) ts ++ labelled n last in
+    ap (labelled n) (append_assoc (line t) (flat_map line ts) last ∙ append_assoc t (10 ∷ []) behind)
+    ∙ (one_line (label n) t behind k.0
+    ∙ (ap (λ v. label n ++ (t ++ 10 ∷ v)) (labelled_lines n ts last k.1)
+    ∙ (ap (λ v. label n ++ v) (sym (append_assoc t (10 ∷ []) rest))
+    ∙ (sym (append_assoc (label n) (line t) rest) ∙ sym (append_assoc (told n t) (flat_map (told n) ts) (labelled n last))))))
 
 -- a text tells an error exactly where it isn't fine, or what stands behind it does
 abbrev Tells : Bool → List ℕ → Type 0
 Tells fine text = (rest : List ℕ) → has_error (text ++ rest) ≡ (not fine || has_error rest)
 
-ends_tell : (n : ℕ) (fine : Bool) (last : List ℕ) → MatchBool fine (last ≡ []) ((more : List ℕ) × (last ≡ codes "error " ++ more)) → Tells fine (marked n last)
-ends_tell n true last h rest = ap (λ x. has_error (marked n x ++ rest)) h
+ends_tell : (n : ℕ) (fine : Bool) (last : List ℕ) → MatchBool fine (last ≡ []) ((more : List ℕ) × (last ≡ codes "error " ++ more)) → Tells fine (labelled n last)
+ends_tell n true last h rest = ap (λ x. has_error (labelled n x ++ rest)) h
 ends_tell n false last h rest =
-    let more = marked_from (mark n) false h.0 in
-    ap (λ x. has_error (marked n x ++ rest)) h.1
-    ∙ (ap has_error (append_assoc (mark n) (codes "error " ++ more) rest) ∙ told_error n (more ++ rest))
+    let more = labelled_from (label n) false h.0 in
+    ap (λ x. has_error (labelled n x ++ rest)) h.1
+    ∙ (ap has_error (append_assoc (label n) (codes "error " ++ more) rest) ∙ told_error n (more ++ rest))
 
-marked_tell : (n : ℕ) (fine : Bool) (text : List ℕ) → AreTold fine text → Tells fine (marked n text)
-marked_tell n fine text h rest =
-    ap (λ x. has_error (marked n x ++ rest)) h.is
-    ∙ (ap (λ x. has_error (x ++ rest)) (marked_lines n h.texts h.last (quiet_are_flat h.texts h.quiet))
-    ∙ (ap has_error (append_assoc (flat_map (told n) h.texts) (marked n h.last) rest)
-    ∙ (behind_lines n h.texts (marked n h.last ++ rest) h.quiet ∙ ends_tell n fine h.last h.ends rest)))
+labelled_tell : (n : ℕ) (fine : Bool) (text : List ℕ) → AreTold fine text → Tells fine (labelled n text)
+labelled_tell n fine text h rest =
+    ap (λ x. has_error (labelled n x ++ rest)) h.is
+    ∙ (ap (λ x. has_error (x ++ rest)) (labelled_lines n h.texts h.last (quiet_are_flat h.texts h.quiet))
+    ∙ (ap has_error (append_assoc (flat_map (told n) h.texts) (labelled n h.last) rest)
+    ∙ (behind_lines n h.texts (labelled n h.last ++ rest) h.quiet ∙ ends_tell n fine h.last h.ends rest)))
 
 -- ---- acts
 
@@ -161,8 +161,8 @@ line_tells n t h rest = behind_told n t rest h
 
 error_line_tells : (n : ℕ) (t : List ℕ) → Tells false (told n (codes "error " ++ t))
 error_line_tells n t rest =
-    ap has_error (append_assoc (mark n) (line (codes "error " ++ t)) rest)
-    ∙ (ap (λ x. has_error (mark n ++ x)) (append_assoc (codes "error " ++ t) (10 ∷ []) rest ∙ append_assoc (codes "error ") t (10 ∷ rest)) ∙ told_error n (t ++ 10 ∷ rest))
+    ap has_error (append_assoc (label n) (line (codes "error " ++ t)) rest)
+    ∙ (ap (λ x. has_error (label n ++ x)) (append_assoc (codes "error " ++ t) (10 ∷ []) rest ∙ append_assoc (codes "error ") t (10 ∷ rest)) ∙ told_error n (t ++ 10 ∷ rest))
 
 word_quiet : (word text : List ℕ) → IsFlat word → IsFlat text → tells_error (word ++ text) ≡ false → is_quiet (word ++ text) ≡ true
 word_quiet word text w f e = and_from (lacks 10 (word ++ text)) (not (tells_error (word ++ text))) (flat_append word text w f) (ap not e)
@@ -187,12 +187,12 @@ act_tells m G t s n Aborted v = line_tells n (codes "aborted") refl
 act_tells m G t s n ErrBegun v = error_line_tells n (codes "begun")
 act_tells m G t s n ErrNotBegun v = error_line_tells n (codes "not begun")
 act_tells m G t s n ErrBatch v = error_line_tells n (codes "batch")
-act_tells m G t s n (One c) v = marked_tell n (m.is_whole s (c ∷ [])) (m.text s (c ∷ [])) (t.told s (c ∷ []) v)
+act_tells m G t s n (One c) v = labelled_tell n (m.is_whole s (c ∷ [])) (m.text s (c ∷ [])) (t.told s (c ∷ []) v)
 act_tells m G t s n (Batch q) v = λ rest.
-    let text = marked n (m.text s q) in
+    let text = labelled n (m.text s q) in
     let end = told n (end_text m s q) in
     ap has_error (append_assoc text end rest)
-    ∙ (marked_tell n (m.is_whole s q) (m.text s q) (t.told s q v) (end ++ rest) ∙ ap (λ b. not (m.is_whole s q) || b) (behind_told n (end_text m s q) rest (end_quiet m s q)))
+    ∙ (labelled_tell n (m.is_whole s q) (m.text s q) (t.told s q v) (end ++ rest) ∙ ap (λ b. not (m.is_whole s q) || b) (behind_told n (end_text m s q) rest (end_quiet m s q)))
 
 act_good : {S : Type 0} (m : Batches S) (IsGood : S → Type 0) → Telling m IsGood → (s : S) (a : Act) → IsGood s → IsGood (act_next m s a)
 act_good m G t s Begun v = v

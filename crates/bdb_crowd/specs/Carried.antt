@@ -3,7 +3,7 @@ use Rattle.std.specs.Prelude.{ℕ, Bool, List, Option, Result, refl}
 use Rattle.bdb_keep.specs.Seen.{Seen}
 use Rattle.bdb_keep.specs.Tables.{Tables}
 use Rattle.bdb_multi.specs.Sessions.{Commands}
-use Rattle.bdb_multi.specs.Slots.{StandsFor}
+use Rattle.bdb_multi.specs.Slots.{AreSlotsOf}
 use Rattle.bdb_session.specs.Known.{Known, Agrees}
 use Rattle.bdb_stream.specs.Handled as handled
 use Rattle.bdb_stream.specs.Handling as handling
@@ -34,7 +34,7 @@ by_crowd = record {
   after = after;
   session_of = λ hand. hand.session;
   Agrees = λ t k p. Agrees t k p.state;
-  StandsFor = λ hand p. StandsFor hand.slots p.before;
+  StandsFor = λ hand p. AreSlotsOf hand.slots p.before;
 }
 
 -- it handles several things one after the other

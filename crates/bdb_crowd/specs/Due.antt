@@ -5,7 +5,7 @@ use Rattle.std.specs.Io.KnownBytes.{Appends}
 use Rattle.bdb_base.specs.Causes.{Rises}
 use Rattle.bdb_keep.specs.Seen.{Seen}
 use Rattle.bdb_many.specs.Many.{Batches, act_reply, act_next}
-use Rattle.bdb_many.specs.Marks.{told}
+use Rattle.bdb_many.specs.Labels.{told}
 use Rattle.bdb_multi.specs.declared.kinds.Act.{Act}
 use Rattle.bdb_multi.specs.declared.kinds.Act.TheVariants.{Begun, Queued, Aborted, ErrBegun, ErrNotBegun, ErrBatch, One, Batch}
 use Rattle.bdb_multi.specs.Sessions.{Commands, most_queued}

@@ -4,14 +4,14 @@ ghost use Rattle.bdb_base.specs.Causes.{Rose, HasCause};
 ghost use Rattle.bdb_io.specs.Failure.{failed};
 ghost use Rattle.bdb_io.specs.Pieces.{WritesPiece};
 ghost use Rattle.bdb_keep.specs.Seen.{IsStill, NeverFall};
-ghost use Rattle.bdb_many.specs.Marks.{mark, marked};
+ghost use Rattle.bdb_many.specs.Labels.{label, labelled};
 ghost use Rattle.bdb_multi.specs.declared.kinds.Act.TheVariants.{One, Batch};
 ghost use Rattle.bdb_multi.specs.Sessions.{most_queued, sessions};
 ghost use Rattle.bdb_session.specs.Known.{Agrees, RemembersSome};
 ghost use Rattle.bdb_session.specs.Outcome.{State};
 ghost use Rattle.bdb_crowd.specs.Due.{IsDone, IsRunBy, IsTold, IsWaiting, due_to, end_line};
 
-use crate::write::{write_count, write_line, write_marked};
+use crate::write::{write_count, write_labelled, write_line};
 use bdb_base::List;
 use bdb_io::{Failed, Sink};
 use bdb_keep::Keeper;
@@ -62,7 +62,7 @@ pub fn answer_act<O: Sink, K: Keeper>(
 /// Writes a line of a session. Ok tells whether it tells no error.
 pub fn tell<O: Sink>(out: &mut O, number: u8, line: &[u8], fine: bool) -> Result<bool, RunError>
     requires { number < sessions }
-    ensures told { IsTold (mark number ++ line.now) fine (O.written out.old) (O.written out.new)
+    ensures told { IsTold (label number ++ line.now) fine (O.written out.old) (O.written out.new)
         result }
     ensures later { O.faults out.old ≤ O.faults out.new }
     ensures sink { IsErrOf result RunError.Sink → Rose (O.faults out.old) (O.faults out.new) }
@@ -125,7 +125,7 @@ fn run_one<O: Sink, K: Keeper>(
         Ok(reply) => reply,
         Err(stop) => return Err(stop),
     };
-    match write_marked(out, number, reply.text.as_slice()) {
+    match write_labelled(out, number, reply.text.as_slice()) {
         Ok(()) => Ok(!reply.refused),
         Err(Failed) => Err(RunError::Sink),
     }
@@ -204,11 +204,11 @@ fn write_batch<O: Sink>(
     requires few { count ≤ most_queued }
     requires accepted { reply.now.accepted ≤ most_queued }
     ensures written { WritesPiece (O.written out.old) (O.written out.new) result
-        (marked number reply.now.text ++ end_line number reply.now.refused reply.now.accepted
+        (labelled number reply.now.text ++ end_line number reply.now.refused reply.now.accepted
         count) }
     ensures cause { HasCause (O.faults out.old) (O.faults out.new) result failed }
 {
-    match write_marked(out, number, reply.text.as_slice()) {
+    match write_labelled(out, number, reply.text.as_slice()) {
         Ok(()) => {}
         Err(Failed) => return Err(Failed),
     }

@@ -1,7 +1,7 @@
 // Carrying out a stream of sessions while it is read.
-ghost use Rattle.std.specs.Prelude.{◌<◌, ◌≤◌, ◌+◌, ℕ, IfSome, OnOk, IsErrOf, length};
+ghost use Rattle.std.specs.Prelude.{◌<◌, ◌≤◌, ◌+◌, IfSome, OnOk, IsErrOf, length};
 ghost use Rattle.std.specs.Io.KnownBytes.{IsAtEnd};
-ghost use Rattle.bdb_base.specs.Causes.{Rose, Rises, RisesOver};
+ghost use Rattle.bdb_base.specs.Causes.{Rose, Rises, RisesOver, RisesWithin};
 ghost use Rattle.bdb_base.specs.Limits.{longest_script};
 ghost use Rattle.bdb_keep.specs.Seen.{IsStill, NeverFall};
 ghost use Rattle.bdb_session.specs.Known.{RemembersSome};
@@ -43,12 +43,12 @@ pub fn carry_out_stream<S: Source, O: Sink, K: Keeper>(
         (S.given script.new) }
     ensures many { IsErrOf result RunError.Large → IfSome (S.left script.old)
         (λ text. longest_script < length text) }
-    ensures within { (IsErrOf result RunError.Large → ⊥) → (n : ℕ) × (n ≤ longest_script)
-        × Rises n (S.given script.old) (S.given script.new) }
+    ensures within { (IsErrOf result RunError.Large → ⊥)
+        → RisesWithin longest_script (S.given script.old) (S.given script.new) }
     ensures one_more { IsErrOf result RunError.Large
         → Rises (longest_script + 1) (S.given script.old) (S.given script.new) }
-    ensures source_counts { (S.faults script.old ≤ S.faults script.new)
-        × (S.given script.old ≤ S.given script.new) }
+    ensures source_faults { S.faults script.old ≤ S.faults script.new }
+    ensures source_given { S.given script.old ≤ S.given script.new }
     ensures sink_count { O.faults out.old ≤ O.faults out.new }
     ensures keeper_counts { NeverFall (K.seen keeper.old) (K.seen keeper.new) }
 {

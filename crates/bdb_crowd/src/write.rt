@@ -4,19 +4,19 @@ ghost use Rattle.std.specs.Fmt.{decimal};
 ghost use Rattle.bdb_base.specs.Causes.{HasCause};
 ghost use Rattle.bdb_io.specs.Failure.{failed};
 ghost use Rattle.bdb_io.specs.Pieces.{WritesPiece};
-ghost use Rattle.bdb_many.specs.Marks.{mark, marked, marked_from};
+ghost use Rattle.bdb_many.specs.Labels.{label, labelled, labelled_from};
 ghost use Rattle.bdb_multi.specs.Sessions.{sessions};
 
 use bdb_io::{Failed, Sink};
 
-/// Writes a line, with the mark of a session before it.
+/// Writes a line, with the label of a session before it.
 pub fn write_line<O: Sink>(out: &mut O, session: u8, line: &[u8]) -> Result<(), Failed>
     requires { session < sessions }
     ensures written { WritesPiece (O.written out.old) (O.written out.new) result
-        (mark session ++ line.now) }
+        (label session ++ line.now) }
     ensures cause { HasCause (O.faults out.old) (O.faults out.new) result failed }
 {
-    match write_mark(out, session) {
+    match write_label(out, session) {
         Ok(()) => {}
         Err(Failed) => return Err(Failed),
     }
@@ -26,10 +26,10 @@ pub fn write_line<O: Sink>(out: &mut O, session: u8, line: &[u8]) -> Result<(), 
     }
 }
 
-/// Writes the mark of a session.
-fn write_mark<O: Sink>(out: &mut O, session: u8) -> Result<(), Failed>
+/// Writes the label of a session.
+fn write_label<O: Sink>(out: &mut O, session: u8) -> Result<(), Failed>
     requires { session < sessions }
-    ensures written { WritesPiece (O.written out.old) (O.written out.new) result (mark session) }
+    ensures written { WritesPiece (O.written out.old) (O.written out.new) result (label session) }
     ensures cause { HasCause (O.faults out.old) (O.faults out.new) result failed }
 {
     if session < 10 {
@@ -38,11 +38,11 @@ fn write_mark<O: Sink>(out: &mut O, session: u8) -> Result<(), Failed>
     out.write_all(&[b'0' + session / 10, b'0' + session % 10, b':', b' '])
 }
 
-/// Writes lines, each with the mark of a session before it.
-pub fn write_marked<O: Sink>(out: &mut O, session: u8, text: &[u8]) -> Result<(), Failed>
+/// Writes lines, each with the label of a session before it.
+pub fn write_labelled<O: Sink>(out: &mut O, session: u8, text: &[u8]) -> Result<(), Failed>
     requires { session < sessions }
     ensures written { WritesPiece (O.written out.old) (O.written out.new) result
-        (marked session text.now) }
+        (labelled session text.now) }
     ensures cause { HasCause (O.faults out.old) (O.faults out.new) result failed }
 {
     let mut rest = text;
@@ -64,8 +64,8 @@ fn end_of_line(text: &[u8]) -> usize
     requires { 0 < length text.now }
     ensures some { 0 < result }
     ensures within { result ≤ length text.now }
-    ensures line { (m : List ℕ) → marked_from m true text.now
-        ≡ m ++ (take result text.now ++ marked_from m true (drop result text.now)) }
+    ensures line { (m : List ℕ) → labelled_from m true text.now
+        ≡ m ++ (take result text.now ++ labelled_from m true (drop result text.now)) }
 {
     match line_feed(text) {
         Some(at) => at + 1,
@@ -80,12 +80,12 @@ fn line_feed(text: &[u8]) -> Option<usize>
     text.iter().position(|byte| *byte == b'\n')
 }
 
-/// Writes a line that tells a number of one digit or two, with the mark of a session before it.
+/// Writes a line that tells a number of one digit or two, with the label of a session before it.
 pub fn write_count<O: Sink>(out: &mut O, session: u8, told: &[u8], number: u8) -> Result<(), Failed>
     requires session { session < sessions }
     requires short { number < 100 }
     ensures written { WritesPiece (O.written out.old) (O.written out.new) result
-        ((mark session ++ told.now) ++ (decimal number ++ 10 ∷ [])) }
+        ((label session ++ told.now) ++ (decimal number ++ 10 ∷ [])) }
     ensures cause { HasCause (O.faults out.old) (O.faults out.new) result failed }
 {
     match write_line(out, session, told) {

@@ -1,30 +1,27 @@
 -- Where all rows make few statements, none of them make too many.
-use Rattle.std.proofs.Common.{◌≡◌, ◌∙◌, ◌⊎◌, ℕ, nat_lt, ◌+◌, ◌≤◌, Bool, true, false, List, [], ◌∷◌, length, map, Option, Some, IfSome, refl, ap, sym, subst, inl, inr, arith}
+use Rattle.std.proofs.Common.{◌≡◌, ◌∙◌, ◌⊎◌, ℕ, ◌+◌, ◌≤◌, Bool, true, false, List, [], ◌∷◌, length, map, Option, Some, IfSome, refl, ap, sym, subst, inl, inr, arith}
 use Rattle.std.specs.List.{AllByRecursion, flat_map, list_all}
 use Rattle.std.specs.FinMap.{find}
 use Rattle.std.specs.Ordering.{eq_by_cmp, is_lt, ordering_reverse}
 use Rattle.std.specs.declared.cmp.Ordering.{Ordering}
 use Rattle.std.specs.declared.cmp.Ordering.TheVariants.{Less, Equal, Greater}
 use Rattle.std.proofs.lemmas.Bool.{cases_Bool, and_parts, cond-true, cond-false, false≢true}
-use Rattle.std.proofs.lemmas.Bool.Decides.{nat_tests}
 use Rattle.std.proofs.lemmas.Cmp.{nat_list_cmp_total, tied_itself}
 use Rattle.std.proofs.lemmas.List.{length-append}
 use Rattle.std.proofs.lemmas.List.Sorted.{length_permutation}
 use Rattle.bdb_base.specs.Limits.{most_statements}
 use Rattle.bdb_base.specs.SortedSet.{ascending}
 use Rattle.bdb_base.specs.declared.kinds.Stmt.{Stmt}
+use Rattle.bdb_base.proofs.OptionLemmas.{none_is_some, same_some}
 use Rattle.bdb_keep.specs.Tables.{Tables, bytes_cmp}
+use Rattle.bdb_keep.proofs.RowsLemmas.{same_place}
 use Rattle.bdb_key.specs.Rows.{mark_bytes}
 use Rattle.bdb_tables.specs.InUse.{val_bytes, val_codec}
 use Rattle.bdb_tables.specs.InUseLaws.{vals_are_one, mark_rows_are_one}
 use Rattle.bdb_tables.specs.Spans.{AreUnder, IsUnder, entry_bytes, entry_cmp}
-use Rattle.bdb_tables.proofs.Held.{same_place, some_same, none_some}
 use Rattle.bdb_decode.specs.Explicit.{AreStated, Paths, TupleRows, ValRow, said}
 use Rattle.bdb_decode.specs.Many.{HaveNoStatements, IsThere}
 use Rattle.bdb_decode.proofs.RowLemmas.{misplaced_have_no_places}
-
-pub not_many : (m n : ℕ) → nat_lt m n ≡ false → n ≤ m
-not_many m n h = grind (arith, nat_tests)
 
 pub some_holds : {X : Type 0} (Q : X → Type 0) (r : Option X) (x : X) → r ≡ Some x → IfSome r Q → Q x
 some_holds Q r x e h = subst (λ o. IfSome o Q) e h
@@ -40,11 +37,11 @@ before x y = is_lt (entry_cmp val_codec x y)
 -- a row that is found among rows is one of them
 found_among : (es : List ValRow) → AllByRecursion (IsUnder val_codec []) es → (e : ValRow) → IsUnder val_codec [] e
     → find bytes_cmp (val_bytes e.0) (map (entry_bytes val_codec) es) ≡ Some (mark_bytes e.1) → Among e es
-found_among [] a e f found = none_some (mark_bytes e.1) found
+found_among [] a e f found = none_is_some (mark_bytes e.1) found
 found_among (x ∷ es) a e f found = elim (cases_Bool (eq_by_cmp bytes_cmp (val_bytes e.0) (val_bytes x.0))) [
   | inl same ↦
       let key : e.0 ≡ x.0 = vals_are_one e.0 x.0 f.key a.0.key (same_place (val_bytes e.0) (val_bytes x.0) same) in
-      let row : x.1 ≡ e.1 = mark_rows_are_one x.1 e.1 a.0.row f.row (some_same (mark_bytes x.1) (mark_bytes e.1)
+      let row : x.1 ≡ e.1 = mark_rows_are_one x.1 e.1 a.0.row f.row (same_some (mark_bytes x.1) (mark_bytes e.1)
       (sym (cond-true (eq_by_cmp bytes_cmp (val_bytes e.0) (val_bytes x.0)) (Some (mark_bytes x.1)) (find bytes_cmp (val_bytes e.0) (map (entry_bytes val_codec) es)) same) ∙ found)) in
       inl (ap (λ q. (q, e.1)) key ∙ ap (λ r. (x.0, r)) (sym row))
   | inr other ↦ inr (found_among es a.1 e f

@@ -14,6 +14,8 @@ use Rattle.bdb_base.specs.declared.kinds.Sign.{Sign}
 use Rattle.bdb_base.specs.declared.kinds.Stmt.{Stmt}
 use Rattle.bdb_base.specs.declared.tuple.Tuple.{Tuple}
 use Rattle.bdb_base.proofs.WorldLemmas.{valid_is_consistent}
+use Rattle.bdb_base.proofs.BoolLemmas.{same_tests}
+use Rattle.bdb_base.proofs.OptionLemmas.{some_of, one_there}
 use Rattle.bdb_keep.specs.Tables.{Tables}
 use Rattle.bdb_tables.specs.InUse.{ValKey, tuple_codec, val_codec}
 use Rattle.bdb_tables.specs.Marks.{Mark}
@@ -23,19 +25,13 @@ use Rattle.bdb_tables.specs.Writes.{Gives}
 use Rattle.bdb_tables.proofs.WriteLemmas.{gives_same}
 use Rattle.bdb_tables.proofs.ListLemmas.{prefix_rest}
 use Rattle.bdb_val.specs.Middle.{HasExplicit, worlds_of}
-use Rattle.bdb_val.proofs.HeldLemmas.{some_is}
 use Rattle.bdb_entries.specs.Tuples.{HasTuples}
 use Rattle.bdb_decode.specs.Explicit.{Paths, TupleRows}
 use Rattle.bdb_decode.specs.ExplicitLaws.{HaveNumbers, HavePaths}
 use Rattle.bdb_decode.specs.Items.{item_of}
 use Rattle.bdb_decode.specs.Whole.{AreBaseStatements, AreHeldExplicit, BaseStatementsAreHeld}
-use Rattle.bdb_decode.proofs.SaidLemmas.{some_one, stated_given, stated_rows_are_explicit}
+use Rattle.bdb_decode.proofs.SaidLemmas.{stated_given, stated_rows_are_explicit}
 use Rattle.bdb_decode.proofs.WholeLemmas.{any_turned, lengths_of}
-
-both_ways : (a b : Bool) → (a ≡ true → b ≡ true) → (b ≡ true → a ≡ true) → a ≡ b
-both_ways true b p q = sym (p refl)
-both_ways false true p q = absurd (false≢true (q refl))
-both_ways false false p q = refl
 
 -- what all items pass, the item of a number does
 item_passes : {X : Type 0} (p : X → Bool) (items : List (ℕ × X)) (n : ℕ) (x : X) → list_all (λ e. p e.1) items ≡ true → item_of items n ≡ Some x → p x ≡ true
@@ -43,7 +39,7 @@ item_passes p [] n x h e = cc
 item_passes p (y ∷ items) n x h e =
     let k = and_parts (p y.1) (list_all (λ d. p d.1) items) h in
     elim (cases_Bool (eq_by_cmp nat_cmp n y.0)) [
-      | inl c ↦ ap p (some_one x y.1 (item_of (y ∷ items) n) e (cond-true (eq_by_cmp nat_cmp n y.0) (Some y.1) (item_of items n) c)) ∙ k.0
+      | inl c ↦ ap p (one_there x y.1 (item_of (y ∷ items) n) e (cond-true (eq_by_cmp nat_cmp n y.0) (Some y.1) (item_of items n) c)) ∙ k.0
       | inr c ↦ item_passes p items n x k.1 (sym (cond-false (eq_by_cmp nat_cmp n y.0) (Some y.1) (item_of items n) c) ∙ e)
     ]
 
@@ -99,12 +95,12 @@ module _ (t : Tables) (c : Catalog) (worlds : Paths) (tuples : TupleRows) (stmts
   keys = key_lengths c.rels
 
   one : (a b : ℕ) (w : List ℕ) → item_of worlds a ≡ Some w → item_of worlds b ≡ Some w → a ≡ b
-  one a b w x y = some_one a b (number_of ns w) (paths.names.named a w (paths.paths a ∙ x)) (paths.names.named b w (paths.paths b ∙ y))
+  one a b w x y = one_there a b (number_of ns w) (paths.names.named a w (paths.paths a ∙ x)) (paths.names.named b w (paths.paths b ∙ y))
 
   numbers : HaveNumbers t tuples
   numbers = record {
     gives = gives_same tuple_codec t ts.tuple (item_of tuples) (λ n _. named n) has.tuples;
-    once = λ a b u x y. some_one a b (ts.number u) (has.named a u (named a ∙ x)) (has.named b u (named b ∙ y));
+    once = λ a b u x y. one_there a b (ts.number u) (has.named a u (named a ∙ x)) (has.named b u (named b ∙ y));
     sized = λ n u x. has.sized n u (named n ∙ x);
   }
 
@@ -119,9 +115,9 @@ module _ (t : Tables) (c : Catalog) (worlds : Paths) (tuples : TupleRows) (stmts
       )
 
   stated : (u : Tuple) → is_some (ts.number u) ≡ list_any (λ x. same_tuple x.tuple u) stmts
-  stated u = both_ways (is_some (ts.number u)) (list_any (λ x. same_tuple x.tuple u) stmts)
+  stated u = same_tests (is_some (ts.number u)) (list_any (λ x. same_tuple x.tuple u) stmts)
       (λ e.
-      let n = some_is (ts.number u) e in
+      let n = some_of (ts.number u) e in
       any_turned stmts u ∙ item_passes (has_tuple stmts) tuples n.0 u h.whole.tuples (sym (named n.0) ∙ has.numbered u n.0 n.1))
       (λ e. let k = tuple_said stmts u e in (has_number k.path u k.said).1)
 
@@ -135,9 +131,9 @@ module _ (t : Tables) (c : Catalog) (worlds : Paths) (tuples : TupleRows) (stmts
   pub base_is_held : AreHeldExplicit keys stmts ns ts f t
   base_is_held = record {
     tuples = record { tuples = has.tuples; numbers = has.numbers; named = has.named; numbered = has.numbered; sized = has.sized; stated = stated };
-    worlds = λ w. both_ways (is_named ns w) (is_state stmts w)
+    worlds = λ w. same_tests (is_named ns w) (is_state stmts w)
         (λ e.
-        let n = some_is (number_of ns w) e in
+        let n = some_of (number_of ns w) e in
         item_passes (is_state stmts) worlds n.0 w h.whole.worlds (sym (paths.paths n.0) ∙ paths.names.numbered w n.0 n.1))
         (state_named w);
     explicit = record {

@@ -3,6 +3,7 @@ use Rattle.std.proofs.Common.{◌≡◌, ◌≤◌, ◌∙◌, ℕ, Bool, true, 
 use Rattle.std.specs.Bool.{MatchBool}
 use Rattle.std.specs.FinMap as tables
 use Rattle.bdb_base.specs.Bases.{Contents}
+use Rattle.bdb_base.proofs.OptionLemmas.{none_is_some}
 use Rattle.bdb_catalog.specs.Bases.{StoresValid}
 use Rattle.bdb_catalog.specs.Opening.{StandFor, StoredFormerly}
 use Rattle.bdb_former.specs.Respelled.{respelled}
@@ -10,7 +11,6 @@ use Rattle.bdb_keep.specs.Tables.{LieInTables, Tables}
 use Rattle.bdb_keep.proofs.Gets.{get_empty, tables_from_gets}
 use Rattle.bdb_tables.specs.Grammar.{InGrammar}
 use Rattle.bdb_tables.specs.InUse.{meta_codec}
-use Rattle.bdb_tables.proofs.Held.{none_some}
 use Rattle.bdb_update.proofs.GrammarLemmas.{stored_is_in_grammar}
 use Rattle.bdb_entries.specs.Format.{HasFormat, IsFormatDamaged}
 use Rattle.bdb_entries.specs.Reading.{IsBare, OthersAreBare}
@@ -34,7 +34,7 @@ empty_bare t n e k = ap (λ u. tables.get u (n ∷ k)) e ∙ get_empty (n ∷ k)
 -- ---- formats
 
 bare_format : (t : Tables) (n : ℕ) → IsBare t 1 → HasFormat t n → ⊥
-bare_format t n bare h = none_some (meta_codec.row_bytes n) (sym (bare (meta_codec.key_bytes tt)) ∙ h.rows tt tt)
+bare_format t n bare h = none_is_some (meta_codec.row_bytes n) (sym (bare (meta_codec.key_bytes tt)) ∙ h.rows tt tt)
 
 -- tables that are not empty stand only for what they store, in this format or in the one before it
 not_empty : (t : Tables) → (t ≡ tables.empty → ⊥) → StoreNone t → ((b : Contents) → StoredFormerly t b → ⊥) → (b : Contents) → StandFor t b → ⊥

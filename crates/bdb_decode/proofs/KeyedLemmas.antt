@@ -11,6 +11,7 @@ use Rattle.bdb_base.specs.declared.tuple.Tuple.{Tuple}
 use Rattle.bdb_base.specs.Same.{same_values}
 use Rattle.bdb_base.specs.SameLemmas.{same_values-Decides}
 use Rattle.bdb_keep.specs.Tables.{Tables, bytes_cmp}
+use Rattle.bdb_keep.proofs.RowsLemmas.{same_place}
 use Rattle.bdb_key.specs.Rows.{IsTupleRow, tuple_bytes}
 use Rattle.bdb_tables.specs.InUse.{ValKey, IsValKey, val_bytes, depth_codec, val_codec}
 use Rattle.bdb_tables.specs.InUseLaws.{vals_are_one}
@@ -18,7 +19,6 @@ use Rattle.bdb_tables.specs.Names.{Names, depth_of}
 use Rattle.bdb_tables.specs.Rows.{Tuples}
 use Rattle.bdb_tables.specs.Spans.{IsUnder, entry_bytes}
 use Rattle.bdb_tables.specs.Writes.{Gives}
-use Rattle.bdb_tables.proofs.Held.{same_place}
 use Rattle.bdb_val.specs.Reads.{is_of_group}
 use Rattle.bdb_val.specs.Settling.{row_key}
 use Rattle.bdb_entries.specs.Tuples.{HasTuples}

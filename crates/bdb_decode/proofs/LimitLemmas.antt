@@ -14,6 +14,7 @@ use Rattle.bdb_base.specs.States.{is_state}
 use Rattle.bdb_base.specs.declared.kinds.Catalog.{Catalog}
 use Rattle.bdb_base.specs.declared.kinds.Stmt.{Stmt}
 use Rattle.bdb_base.proofs.BaseLemmas.{belongs_parts}
+use Rattle.bdb_base.proofs.SegmentLemmas.{length-prefix}
 use Rattle.bdb_catalog.specs.Bases.{StoresValid}
 use Rattle.bdb_keep.specs.Tables.{Tables}
 use Rattle.bdb_key.proofs.Readings.{all_push}
@@ -26,7 +27,6 @@ use Rattle.bdb_tables.specs.Spans.{HasNextUnder, IsNextUnder, IsUnder, entry_cmp
 use Rattle.bdb_tables.specs.States.{HoldsStates}
 use Rattle.bdb_tables.proofs.SpanLemmas.{Covers, covers_none, rows_end, rows_more}
 use Rattle.bdb_update.proofs.CountLemmas.{numbers_are_counted}
-use Rattle.bdb_worlds.proofs.ShrinkLemmas.{prefix_short}
 use Rattle.bdb_decode.specs.Limits.{AreWithinLimits, is_shallow}
 use Rattle.bdb_decode.specs.Parts.{StoreNone}
 use Rattle.bdb_graph.specs.Ups.{HasDepth}
@@ -44,7 +44,7 @@ fronts_are_short c (x ∷ xs) w h e =
     elim (or_cases (is_prefix w x.path) (list_any (λ (y : Stmt). is_prefix w y.path) xs) e) [
       | inl p ↦
           let short = leb-true (length x.path) deepest_statement (and_parts (alternates x.path) (nat_le (length x.path) deepest_statement) (belongs_parts c x k.0).path).1 in
-          let front = prefix_short w x.path p in
+          let front = length-prefix w x.path p in
           omega (arith, short, front)
       | inr p ↦ fronts_are_short c xs w k.1 p
     ]

@@ -17,6 +17,8 @@ use Rattle.bdb_base.specs.SortedSet.{ascending}
 use Rattle.bdb_base.specs.declared.kinds.Stmt.{Stmt}
 use Rattle.bdb_base.specs.declared.tuple.Tuple.{Tuple}
 use Rattle.bdb_base.proofs.CountLemmas.{distinct_count-le, one_unless}
+use Rattle.bdb_base.proofs.OptionLemmas.{one_there}
+use Rattle.bdb_base.proofs.AllLemmas.{all_both}
 use Rattle.bdb_keep.specs.Tables.{Tables, bytes_cmp}
 use Rattle.bdb_key.specs.Rows.{mark_bytes}
 use Rattle.bdb_tables.specs.Codec.{Codec, place}
@@ -26,6 +28,7 @@ use Rattle.bdb_tables.specs.Rows.{HoldsRows, HoldsTuples, Tuples}
 use Rattle.bdb_tables.specs.Spans.{HasNextUnder, IsUnder, entry_bytes, entry_cmp}
 use Rattle.bdb_tables.specs.Stored.{StoredAs}
 use Rattle.bdb_tables.proofs.SpanLemmas.{Covers}
+use Rattle.bdb_tables.proofs.MarkLemmas.{mark_is}
 use Rattle.bdb_val.specs.Settling.{row_key}
 use Rattle.bdb_val.proofs.HeldLemmas.{held, right_row}
 use Rattle.bdb_val.proofs.WorldLemmas.{mark_tells}
@@ -36,8 +39,7 @@ use Rattle.bdb_decode.specs.Many.{HaveTooMany, IsThere}
 use Rattle.bdb_entries.proofs.ListedLemmas.{all_found}
 use Rattle.bdb_decode.proofs.OnceLemmas.{none_later}
 use Rattle.bdb_decode.proofs.RowLemmas.{SaidBelow, said_more}
-use Rattle.bdb_decode.proofs.SaidLemmas.{makes_tells, mark_is, placed_tells, some_one}
-use Rattle.bdb_entries.proofs.TupleLemmas.{all_both}
+use Rattle.bdb_decode.proofs.SaidLemmas.{makes_tells, placed_tells}
 
 -- ---- rows that are read one after the other
 
@@ -129,7 +131,7 @@ module _ (keys : ℕ → ℕ) (stmts : List Stmt) (ns : Names) (ts : Tuples) (t 
   row_is_stated x e there placed makes =
       let m = makes_tells worlds tuples x.path x.tuple x.sign e makes in
       let p = placed_tells keys worlds tuples e placed in
-      let own : p.tuple ≡ x.tuple = some_one p.tuple x.tuple (item_of tuples e.0.3) p.tuple_is m.tuple in
+      let own : p.tuple ≡ x.tuple = one_there p.tuple x.tuple (item_of tuples e.0.3) p.tuple_is m.tuple in
       let key : row_key keys e.0.0 e.0.3 x.tuple ≡ e.0 = ap (λ (y : Tuple). row_key keys e.0.0 e.0.3 y) (sym own) ∙ p.key in
       let row = mark_is (held keys stmts stmts ns ts t h e.0) e.1 (sym (r.rows e.0 there.fits) ∙ there.found) in
       let mark = ap (held keys stmts stmts ns ts t h) key ∙ row ∙ ap Some m.mark in
@@ -153,8 +155,8 @@ pub not_too_many : (b : Contents) (ns : Names) (ts : Tuples) (t : Tables) (world
 not_too_many b ns ts t worlds tuples s v paths named h =
     let xs = flat_map (said worlds tuples) h.rows in
     let apart = made_apart (key_lengths b.catalog.rels) worlds tuples
-    (λ a b w x y. some_one a b (number_of ns w) (paths.names.named a w (paths.paths a ∙ x)) (paths.names.named b w (paths.paths b ∙ y)))
-    (λ a b u x y. some_one a b (ts.number u) (s.tuples.named a u (named a ∙ x)) (s.tuples.named b u (named b ∙ y))) h.rows h.placed h.sorted in
+    (λ a b w x y. one_there a b (number_of ns w) (paths.names.named a w (paths.paths a ∙ x)) (paths.names.named b w (paths.paths b ∙ y)))
+    (λ a b u x y. one_there a b (ts.number u) (s.tuples.named a u (named a ∙ x)) (s.tuples.named b u (named b ∙ y))) h.rows h.placed h.sorted in
     let less = distinct_count-le same_as same_as-Decides xs b.stmts (rows_are_stated (key_lengths b.catalog.rels) b.stmts ns ts t worlds tuples paths.paths named s.tuples s.rows h.rows h.there h.placed) in
     let within = count_within same_as b.stmts in
     let few = leb-true (length b.stmts) most_statements v.stmts.few_stmts in

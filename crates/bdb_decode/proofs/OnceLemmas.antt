@@ -6,7 +6,6 @@ use Rattle.std.specs.declared.cmp.Ordering.{Ordering}
 use Rattle.std.specs.declared.cmp.Ordering.TheVariants.{Less, Equal, Greater}
 use Rattle.std.specs.Ordering.{is_lt, ordering_reverse}
 use Rattle.std.proofs.lemmas.Bool.{cases_Bool, and_parts, and_from, or_parts, false≢true, false_from_ne_true, not_from_false}
-use Rattle.std.proofs.lemmas.Cmp.{nat_list_cmp_total, tied_itself}
 use Rattle.std.proofs.lemmas.List.Folds.{list_any-append}
 use Rattle.std.proofs.lemmas.List.Sorted.{sorted_far, ranks_by, sum_by-IsPermutation}
 use Rattle.std.proofs.lemmas.List.Sums.{length-filter}
@@ -19,13 +18,15 @@ use Rattle.bdb_base.specs.declared.kinds.Sign.{Sign}
 use Rattle.bdb_base.specs.declared.kinds.Stmt.{Stmt}
 use Rattle.bdb_base.specs.declared.tuple.Tuple.{Tuple}
 use Rattle.bdb_base.proofs.ListLemmas.{filter_kept_one, filter_dropped_one}
+use Rattle.bdb_base.proofs.OptionLemmas.{one_there}
 use Rattle.bdb_keep.specs.Tables.{Tables, bytes_cmp}
 use Rattle.bdb_tables.specs.InUse.{ValKey, val_bytes, val_codec}
 use Rattle.bdb_tables.specs.Spans.{entry_cmp}
 use Rattle.bdb_val.specs.Settling.{row_key}
+use Rattle.bdb_val.proofs.CopyLemmas.{not_below_itself}
 use Rattle.bdb_decode.specs.Explicit.{AreStated, Paths, TupleRows, ValRow, is_placed, said, said_by}
 use Rattle.bdb_decode.specs.Items.{item_of}
-use Rattle.bdb_decode.proofs.SaidLemmas.{is_this, makes_tells, placed_tells, some_one}
+use Rattle.bdb_decode.proofs.SaidLemmas.{is_this, makes_tells, placed_tells}
 
 -- ---- statements in order, of which none stands twice, ascend
 
@@ -121,15 +122,12 @@ module _ (keys : ℕ → ℕ) (worlds : Paths) (tuples : TupleRows) (one : (a b 
       let n = makes_tells worlds tuples w u s y b in
       let j = placed_tells keys worlds tuples x p in
       let k = placed_tells keys worlds tuples y q in
-      let ju : j.tuple ≡ u = some_one j.tuple u (item_of tuples x.0.3) j.tuple_is m.tuple in
-      let ku : k.tuple ≡ u = some_one k.tuple u (item_of tuples y.0.3) k.tuple_is n.tuple in
+      let ju : j.tuple ≡ u = one_there j.tuple u (item_of tuples x.0.3) j.tuple_is m.tuple in
+      let ku : k.tuple ≡ u = one_there k.tuple u (item_of tuples y.0.3) k.tuple_is n.tuple in
       sym (ap (λ (z : Tuple). row_key keys x.0.0 x.0.3 z) (sym ju) ∙ j.key)
       ∙ ap (λ (z : ℕ). row_key keys z x.0.3 u) (one x.0.0 y.0.0 w m.path n.path)
       ∙ ap (λ (z : ℕ). row_key keys y.0.0 z u) (once x.0.3 y.0.3 u m.tuple n.tuple)
       ∙ (ap (λ (z : Tuple). row_key keys y.0.0 y.0.3 z) (sym ku) ∙ k.key)
-
-  not_below_itself : (b : List ℕ) → is_lt (bytes_cmp b b) ≡ true → ⊥
-  not_below_itself b e = false≢true (sym (ap is_lt (tied_itself nat_list_cmp_total b)) ∙ e)
 
   pub none_later : (u : Stmt) (x : ValRow) (xs : List ValRow) → is_placed keys worlds tuples x ≡ true → list_any (λ h. same_statement h u) (said worlds tuples x) ≡ true
       → list_all (is_placed keys worlds tuples) xs ≡ true → list_all (λ y. is_lt (entry_cmp val_codec x y)) xs ≡ true

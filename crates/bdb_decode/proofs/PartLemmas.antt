@@ -1,10 +1,9 @@
 -- The parts of tables, and the base that they make.
-use Rattle.std.proofs.Common.{◌≡◌, ◌∙◌, ◌+◌, ◌<◌, ◌≤◌, ℕ, Bool, true, false, ◌&&◌, ◌||◌, nat_eq, cond, List, [], ◌∷◌, ◌++◌, length, map, take, get_or, Option, Some, None, is_some, refl, ap, sym, subst, arith}
+use Rattle.std.proofs.Common.{◌≡◌, ◌∙◌, ◌+◌, ◌<◌, ◌≤◌, ℕ, Bool, true, false, ◌&&◌, ◌||◌, nat_eq, cond, List, [], ◌∷◌, ◌++◌, length, map, take, get_or, Option, Some, None, is_some, refl, ap, sym, subst}
 use Rattle.std.specs.Bool.{MatchBool}
 use Rattle.std.specs.List.{list_all, list_any, AllByRecursion}
 use Rattle.std.specs.Ordering.{is_eq, is_lt, eq_by_cmp, nat_cmp}
 use Rattle.std.proofs.lemmas.Bool.{and_parts, and_from, or_left, or_right, eq-eqb, leb-true}
-use Rattle.std.proofs.lemmas.Bool.Decides.{nat_tests}
 use Rattle.std.proofs.lemmas.List.{map-append, take_more}
 use Rattle.bdb_base.specs.Bases.{Contents, is_user, key_lengths}
 use Rattle.bdb_base.specs.Limits.{most_users}
@@ -13,7 +12,10 @@ use Rattle.bdb_base.specs.declared.kinds.Catalog.{Catalog}
 use Rattle.bdb_base.specs.declared.kinds.Stmt.{Stmt}
 use Rattle.bdb_base.specs.declared.kinds.UserSlot.{UserSlot}
 use Rattle.bdb_base.specs.declared.tuple.Tuple.{Tuple}
+use Rattle.bdb_base.specs.OrderLemmas.{is_eq_nat_cmp}
 use Rattle.bdb_base.proofs.WorldLemmas.{valid_is_consistent}
+use Rattle.bdb_base.proofs.OptionLemmas.{some_of}
+use Rattle.bdb_base.proofs.Numbers.{same_number, eq_turned}
 use Rattle.bdb_catalog.specs.Bases.{StoresValid}
 use Rattle.bdb_keep.specs.Tables.{Tables}
 use Rattle.bdb_key.specs.Grammar.{IsNum}
@@ -31,12 +33,11 @@ use Rattle.bdb_tables.specs.Stored.{StoredAs}
 use Rattle.bdb_tables.specs.Writes.{Gives}
 use Rattle.bdb_tables.proofs.CatalogLemmas.{one_contents, one_relations, one_users}
 use Rattle.bdb_tables.proofs.WriteLemmas.{gives_one, gives_same}
-use Rattle.bdb_val.proofs.HeldLemmas.{some_is}
 use Rattle.bdb_worlds.proofs.ReadLemmas.{found_is}
 use Rattle.bdb_entries.specs.Catalog.{HasCatalog}
 use Rattle.bdb_entries.specs.Tuples.{AreTuples, HasTuples, HaveNoTuples}
 use Rattle.bdb_entries.proofs.ReadLemmas.{past, under_fits}
-use Rattle.bdb_entries.proofs.TupleLemmas.{holding, item_all, item_in, items_give, same_number}
+use Rattle.bdb_entries.proofs.TupleLemmas.{holding, item_all, item_in, items_give}
 use Rattle.bdb_graph.specs.Naming.{AreWorlds, names_of, path_in}
 use Rattle.bdb_graph.specs.Ups.{HoldNoStates}
 use Rattle.bdb_graph.specs.declared.naming.NamedWorld.{NamedWorld}
@@ -53,12 +54,6 @@ use Rattle.bdb_decode.proofs.WholeLemmas.{held_bases_are_stated, held_bases_are_
 
 -- ---- items by number
 
-same_test : (a b : ℕ) → is_eq (nat_cmp a b) ≡ nat_eq a b
-same_test a b = grind (arith, nat_tests)
-
-turned_test : (a b : ℕ) → is_eq (nat_cmp a b) ≡ nat_eq b a
-turned_test a b = grind (arith, nat_tests)
-
 -- functions that agree at numbers of four bytes, and give nothing at others, agree
 same_everywhere : {X : Type 0} (f g : ℕ → Option X) → ((n : ℕ) → IsNum n → f n ≡ g n) → ((n : ℕ) (x : X) → f n ≡ Some x → IsNum n) → ((n : ℕ) (x : X) → g n ≡ Some x → IsNum n)
     → (n : ℕ) → f n ≡ g n
@@ -74,7 +69,7 @@ has_number : {X : Type 0} (items : List (ℕ × X)) (n : ℕ) → is_some (item_
 has_number [] n = refl
 has_number {X} (y ∷ items) n =
     by (eq_by_cmp nat_cmp n y.0) (item_of items n) (list_any (λ k. nat_eq k n) (map (λ (e : ℕ × X). e.0) items)) (has_number items n)
-    ∙ ap (λ b. b || list_any (λ k. nat_eq k n) (map (λ (e : ℕ × X). e.0) items)) (turned_test n y.0)
+    ∙ ap (λ b. b || list_any (λ k. nat_eq k n) (map (λ (e : ℕ × X). e.0) items)) (eq_turned n y.0)
   where
     by : (b : Bool) (o : Option X) (later : Bool) → is_some o ≡ later → is_some (cond b (Some y.1) o) ≡ (b || later)
     by true o later e = refl
@@ -111,7 +106,7 @@ tuples_ascend (e ∷ rows) a h =
 path_is : (worlds : List NamedWorld) (n : ℕ) → path_in worlds n ≡ item_of (map path_row worlds) n
 path_is [] n = refl
 path_is (x ∷ worlds) n =
-    ap (λ o. cond (nat_eq n x.wid) (Some x.path) o) (path_is worlds n) ∙ ap (λ b. cond b (Some x.path) (item_of (map path_row worlds) n)) (sym (same_test n x.wid))
+    ap (λ o. cond (nat_eq n x.wid) (Some x.path) o) (path_is worlds n) ∙ ap (λ b. cond b (Some x.path) (item_of (map path_row worlds) n)) (sym (is_eq_nat_cmp n x.wid))
 
 paths_above : (k : ℕ) (w : List ℕ) (worlds : List NamedWorld) → list_all (λ y. is_lt (number_cmp (k, w) y)) (map path_row worlds) ≡ list_all (λ n. is_lt (nat_cmp k n)) (map (λ (x : NamedWorld). x.wid) worlds)
 paths_above k w [] = refl
@@ -188,7 +183,7 @@ module _ (t : Tables) (worlds : Paths) (users : ℕ → Bool) (ns : Names) (path
   linked_each [] named h = tt
   linked_each (x ∷ xs) named h =
       let n = named x.0 (or_left (nat_eq x.0 x.0) (list_any (λ (y : ℕ × Option ℕ). nat_eq y.0 x.0) xs) (eq-eqb x.0 x.0 refl)) in
-      let w = some_is (path_of ns x.0) n in
+      let w = some_of (path_of ns x.0) n in
       let fits = paths.names.sized w.0 x.0 (paths.names.named x.0 w.0 w.1) in (
         (n, sym (found_is link_codec number_rows_are_one t (link_of ns) states.tables.link x.0 fits x.1 h.0)),
         linked_each xs (λ k e. named k (or_right (nat_eq x.0 k) (list_any (λ (y : ℕ × Option ℕ). nat_eq y.0 k) xs) e)) h.1,

@@ -6,14 +6,15 @@ use Rattle.std.specs.FinMap.{find}
 use Rattle.std.proofs.lemmas.Bool.{cases_Bool, and_parts, and_from, cond-true, cond-false, false≢true}
 use Rattle.std.proofs.lemmas.List.Folds.{list_all-append}
 use Rattle.bdb_base.specs.declared.kinds.Stmt.{Stmt}
+use Rattle.bdb_base.proofs.OptionLemmas.{none_is_some, same_some}
 use Rattle.bdb_keep.specs.Tables.{Tables, bytes_cmp}
+use Rattle.bdb_keep.proofs.RowsLemmas.{same_place}
 use Rattle.bdb_key.specs.Rows.{mark_bytes}
 use Rattle.bdb_tables.specs.Codec.{place}
 use Rattle.bdb_tables.specs.InUse.{val_bytes, val_codec}
 use Rattle.bdb_tables.specs.InUseLaws.{vals_are_one, mark_rows_are_one}
 use Rattle.bdb_tables.specs.Raw.{IsForeignFrom}
 use Rattle.bdb_tables.specs.Spans.{IsUnder, IsNextUnder, HasNextUnder, entry_bytes}
-use Rattle.bdb_tables.proofs.Held.{same_place, some_same, none_some}
 use Rattle.bdb_tables.proofs.SpanLemmas.{Covers, rows_more, rows_end, covers_none}
 use Rattle.bdb_entries.proofs.ReadLemmas.{foreign_misfits, under_fits}
 use Rattle.bdb_decode.specs.Explicit.{AreMisplaced, ArePlaced, AreSaid, Paths, TupleRows, ValRow, is_placed, said}
@@ -64,13 +65,13 @@ module _ (keys : ℕ → ℕ) (worlds : Paths) (tuples : TupleRows) where
   -- a row that is found among rows is one of them
   pub found_passes : (p : ValRow → Bool) (es : List ValRow) → AllByRecursion (IsUnder val_codec []) es → list_all p es ≡ true → (e : ValRow) → IsUnder val_codec [] e
       → find bytes_cmp (val_bytes e.0) (map (entry_bytes val_codec) es) ≡ Some (mark_bytes e.1) → p e ≡ true
-  found_passes p [] a h e f found = absurd (none_some (mark_bytes e.1) found)
+  found_passes p [] a h e f found = absurd (none_is_some (mark_bytes e.1) found)
   found_passes p (x ∷ es) a h e f found =
       let k = and_parts (p x) (list_all p es) h in
       elim (cases_Bool (eq_by_cmp bytes_cmp (val_bytes e.0) (val_bytes x.0))) [
         | inl same ↦
             let key : e.0 ≡ x.0 = vals_are_one e.0 x.0 f.key a.0.key (same_place (val_bytes e.0) (val_bytes x.0) same) in
-            let row : x.1 ≡ e.1 = mark_rows_are_one x.1 e.1 a.0.row f.row (some_same (mark_bytes x.1) (mark_bytes e.1)
+            let row : x.1 ≡ e.1 = mark_rows_are_one x.1 e.1 a.0.row f.row (same_some (mark_bytes x.1) (mark_bytes e.1)
             (sym (cond-true (eq_by_cmp bytes_cmp (val_bytes e.0) (val_bytes x.0)) (Some (mark_bytes x.1)) (find bytes_cmp (val_bytes e.0) (map (entry_bytes val_codec) es)) same) ∙ found)) in
             ap (λ q. p (q, e.1)) key ∙ ap (λ r. p (x.0, r)) (sym row) ∙ k.0
         | inr other ↦ found_passes p es a.1 k.1 e f

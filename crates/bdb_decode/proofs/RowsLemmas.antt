@@ -10,6 +10,8 @@ use Rattle.bdb_base.specs.declared.kinds.Stmt.{Stmt}
 use Rattle.bdb_base.specs.declared.tuple.Tuple.{Tuple}
 use Rattle.bdb_base.specs.Worlds.{contradicted}
 use Rattle.bdb_base.proofs.WorldLemmas.{explicit_tuple}
+use Rattle.bdb_base.proofs.OptionLemmas.{some_of, some_mapped}
+use Rattle.bdb_base.proofs.AllLemmas.{all_weaker, all_both}
 use Rattle.bdb_keep.specs.Tables.{Tables}
 use Rattle.bdb_key.specs.Grammar.{IsNum}
 use Rattle.bdb_tables.specs.Codec.{TableFits, place}
@@ -26,8 +28,8 @@ use Rattle.bdb_val.specs.Reads.{AreReadUnder, HasRows, HaveTuples, world_prefix}
 use Rattle.bdb_val.specs.Settled.{settled_mark, sign_at}
 use Rattle.bdb_val.specs.Settling.{mark_in, next_mark, AreNamed, are_apart, row_key}
 use Rattle.bdb_val.specs.Steps.{IsSettling, rows_made}
-use Rattle.bdb_val.specs.declared.stored.Stored.{Stored}
-use Rattle.bdb_val.proofs.HeldLemmas.{some_is, names_are_linked, settled_rows_are_held, held_rows_are_explicit, held_rows_are_settled}
+use Rattle.bdb_val.specs.declared.stored.StoredRow.{StoredRow}
+use Rattle.bdb_val.proofs.HeldLemmas.{names_are_linked, settled_rows_are_held, held_rows_are_explicit, held_rows_are_settled}
 use Rattle.bdb_val.proofs.ReadLemmas.{read_named, read_apart, world_span}
 use Rattle.bdb_val.proofs.StepLemmas.{own_mark, next_after, settled_after}
 use Rattle.bdb_entries.proofs.TupleLemmas.{given_is}
@@ -35,10 +37,6 @@ use Rattle.bdb_decode.specs.SettledRows.{AreCandidates, AreKeyed, AreLinked, IsK
 use Rattle.bdb_decode.specs.Settles.{settles}
 use Rattle.bdb_decode.proofs.GivenLemmas.{given, given_gives}
 use Rattle.bdb_decode.proofs.SettlesLemmas.{settled_next, next_settles}
-
-some_map : {X Y : Type 0} (f : X → Y) (o : Option X) → is_some (option_map f o) ≡ is_some o
-some_map f None = refl
-some_map f (Some x) = refl
 
 -- ---- one world, where the explicit rows are the statements
 
@@ -52,7 +50,7 @@ module _ (keys : ℕ → ℕ) (stmts : List Stmt) (ns : Names) (tuple : ℕ → 
       let m = (names_are_linked ns names).link wid i w e in
       subst (λ o. MatchOption o (Unit {0}) IsNum) (sym m.1) (named_size m.0 _ m.2)
 
-  module _ (wid : ℕ) (w : List ℕ) (p : path_of ns wid ≡ Some w) (link : Option ℕ) (l : link_of ns wid ≡ link) (own from : List Stored)
+  module _ (wid : ℕ) (w : List ℕ) (p : path_of ns wid ≡ Some w) (link : Option ℕ) (l : link_of ns wid ≡ link) (own from : List StoredRow)
       (own_read : AreReadUnder t (world_prefix wid) own) (from_read : MatchOption link (from ≡ []) (λ m. AreReadUnder t (world_prefix m) from)) where
     size : IsNum wid
     size = named_size wid w p
@@ -63,7 +61,7 @@ module _ (keys : ℕ → ℕ) (stmts : List Stmt) (ns : Names) (tuple : ℕ → 
     own_named : AreNamed tuple own
     own_named = read_named keys tuple f t h.rows (world_prefix wid) own own_read
 
-    by_link : (P : List Stored → Type 0) → P [] → ((m : ℕ) → IsNum m → AreReadUnder t (world_prefix m) from → P from) → P from
+    by_link : (P : List StoredRow → Type 0) → P [] → ((m : ℕ) → IsNum m → AreReadUnder t (world_prefix m) from → P from) → P from
     by_link P none some = go link size_link from_read
       where
         go : (o : Option ℕ) → MatchOption o (Unit {0}) IsNum → MatchOption o (from ≡ []) (λ m. AreReadUnder t (world_prefix m) from) → P from
@@ -117,25 +115,17 @@ listed P (x ∷ xs) wid a e = elim (or_cases (nat_eq x.0 wid) (list_any (λ y. n
   | inr b ↦ listed P xs wid a.1 b
 ]
 
-all_pairs : {X : Type 0} (P Q R : X → Type 0) (xs : List X) → ((x : X) → P x → Q x → R x) → AllByRecursion P xs → AllByRecursion Q xs → AllByRecursion R xs
-all_pairs P Q R [] f a b = tt
-all_pairs P Q R (x ∷ xs) f a b = (f x a.0 b.0, all_pairs P Q R xs f a.1 b.1)
-
-all_weaker : {X : Type 0} (P Q : X → Type 0) (xs : List X) → ((x : X) → P x → Q x) → AllByRecursion P xs → AllByRecursion Q xs
-all_weaker P Q [] f a = tt
-all_weaker P Q (x ∷ xs) f a = (f x a.0, all_weaker P Q xs f a.1)
-
 module _ (keys : ℕ → ℕ) (stmts : List Stmt) (ns : Names) (ts : Tuples) (worlds : List (ℕ × Option ℕ)) (t : Tables) (c : AreCandidates keys stmts ns ts worlds t) where
   -- a world with a depth has a name
   depth_named : (wid : ℕ) → IsNum wid → is_some (tables.get t (place depth_codec wid)) ≡ is_some (path_of ns wid)
-  depth_named wid n = ap is_some (c.depths.rows wid n) ∙ some_map depth_codec.row_bytes (option_map (λ w. length w) (path_of ns wid)) ∙ some_map (λ w. length w) (path_of ns wid)
+  depth_named wid n = ap is_some (c.depths.rows wid n) ∙ some_mapped depth_codec.row_bytes (option_map (λ w. length w) (path_of ns wid)) ∙ some_mapped (λ w. length w) (path_of ns wid)
 
   module _ (fits : TableFits val_codec t) (keyed : AreKeyed keys t) where
     abbrev rows : ValKey → Option Mark
     rows = given val_codec t fits
 
     row_keyed : (k : ValKey) → IsValKey k → is_some (rows k) ≡ true → IsKeyed keys t k
-    row_keyed k v s = keyed.each k v (ap is_some ((given_gives val_codec t fits).rows k v) ∙ some_map val_codec.row_bytes (rows k) ∙ s)
+    row_keyed k v s = keyed.each k v (ap is_some ((given_gives val_codec t fits).rows k v) ∙ some_mapped val_codec.row_bytes (rows k) ∙ s)
 
     explicit_rows : HasExplicit keys stmts (worlds_of ns) ts.tuple rows t
     explicit_rows = record {
@@ -152,7 +142,7 @@ module _ (keys : ℕ → ℕ) (stmts : List Stmt) (ns : Names) (ts : Tuples) (wo
       worlds = λ k v s. sym (depth_named k.0 v.world) ∙ (row_keyed k v s).world;
       explicit = λ wid w tid u p n. c.stated rows (given_gives val_codec t fits) wid w tid u p n;
       numbered = λ w u s e.
-          let n = some_is (ts.number u) (c.tuples.stated u ∙ explicit_tuple stmts w u s e) in
+          let n = some_of (ts.number u) (c.tuples.stated u ∙ explicit_tuple stmts w u s e) in
           (n.0, c.tuples.numbered u n.0 n.1);
       consistent = c.consistent;
     }
@@ -160,7 +150,7 @@ module _ (keys : ℕ → ℕ) (stmts : List Stmt) (ns : Names) (ts : Tuples) (wo
     rows_settled : AllByRecursion (λ x. TellsWorld keys t x true) worlds → AreSettledBut keys stmts (worlds_of ns) ts.tuple rows (λ _ _. false)
     rows_settled all wid tid u n out w p =
         let x = listed (λ x. (link_of ns x.0 ≡ x.1) × TellsWorld keys t x true) worlds wid
-        (all_pairs (λ x. (is_some (path_of ns x.0) ≡ true) × (link_of ns x.0 ≡ x.1)) (λ x. TellsWorld keys t x true) (λ x. (link_of ns x.0 ≡ x.1) × TellsWorld keys t x true) worlds (λ x a b. (a.1, b)) c.linked.each all)
+        (all_both (λ x. (is_some (path_of ns x.0) ≡ true) × (link_of ns x.0 ≡ x.1)) (λ x. TellsWorld keys t x true) (λ x. (link_of ns x.0 ≡ x.1) × TellsWorld keys t x true) worlds (λ x a b. (a.1, b)) c.linked.each all)
         (c.linked.all wid (ap is_some p)) in
         subst (λ i. rows (row_key keys i tid u) ≡ settled_mark (explicit_sign stmts w u) (contradicted keys stmts w u) (sign_at (λ m. rows (row_key keys m tid u)) (link_of ns i))) x.2
         (passing_settled keys stmts ns ts.tuple rows t c.names explicit_rows x.0.0 w (ap (path_of ns) x.2 ∙ p) x.0.1 x.1.0 x.1.1.own x.1.1.from x.1.1.own_read x.1.1.from_read (sym x.1.1.told) tid u n)
@@ -178,7 +168,7 @@ module _ (keys : ℕ → ℕ) (stmts : List Stmt) (ns : Names) (ts : Tuples) (wo
     pub held_passing : AllByRecursion (λ x. TellsWorld keys t x false → ⊥) worlds
     held_passing = all_weaker (λ x. (is_some (path_of ns x.0) ≡ true) × (link_of ns x.0 ≡ x.1)) (λ x. TellsWorld keys t x false → ⊥) worlds
         (λ x a b.
-        let w = some_is (path_of ns x.0) a.0 in
+        let w = some_of (path_of ns x.0) a.0 in
         true≢false (sym (settled_passing keys stmts ns ts.tuple held t c.names held_explicit x.0 w.0 w.1 x.1 a.1 b.own b.from b.own_read b.from_read
         (λ tid u n. held_rows_are_settled keys stmts ns ts t c.names c.states c.consistent c.tuples x.0 tid u n refl w.0 w.1)) ∙ sym b.told))
         c.linked.each
@@ -195,7 +185,7 @@ rows_told keys t worlds b fits keyed h stmts ns ts c = by b h
 pub world_told : (keys : ℕ → ℕ) (t u : Tables) (x : ℕ × Option ℕ) (a b : Bool) → u ≡ t → a ≡ b → TellsWorld keys u x a → TellsWorld keys t x b
 world_told keys t u x a b same is h = subst (λ v. TellsWorld keys v x b) same (subst (TellsWorld keys u x) is h)
 
-pub linked_none : (t : Tables) (rows : List Stored) → rows ≡ [] → AreLinked t None rows
+pub linked_none : (t : Tables) (rows : List StoredRow) → rows ≡ [] → AreLinked t None rows
 linked_none t rows none = record { read = none; apart = ap are_apart none }
 
 pub keyed_tuples : (keys : ℕ → ℕ) (t : Tables) → AreKeyed keys t → HaveTuples t
@@ -236,12 +226,12 @@ module _ (keys : ℕ → ℕ) (t : Tables) (g : InGrammar t) (keyed : AreKeyed k
     rows = given_gives val_codec t val_fits;
     sized = given_size;
     keyed = λ k v s.
-        let h = keyed.each k v (ap is_some ((given_gives val_codec t val_fits).rows k v) ∙ some_map val_codec.row_bytes (given_row k) ∙ s) in
+        let h = keyed.each k v (ap is_some ((given_gives val_codec t val_fits).rows k v) ∙ some_mapped val_codec.row_bytes (given_row k) ∙ s) in
         (h.tuple, given_is tuple_codec tuple_rows_are_one t given_tuple tuples_given k.3 v.tuple h.tuple h.stands.in_grammar h.stands.found, h.same);
   }
 
   -- rows of one world that are read are of tuples of their own
-  pub keyed_apart : (wid : ℕ) → IsNum wid → (xs : List Stored) → AreReadUnder t (world_prefix wid) xs → are_apart xs ≡ true
+  pub keyed_apart : (wid : ℕ) → IsNum wid → (xs : List StoredRow) → AreReadUnder t (world_prefix wid) xs → are_apart xs ≡ true
   keyed_apart wid size xs r = read_apart keys given_tuple given_row t rows_given wid (λ _. true) (world_prefix wid) xs (world_span keys wid size) r
 
 -- ---- a world of a list, by its place

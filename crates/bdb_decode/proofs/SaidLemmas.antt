@@ -15,35 +15,24 @@ use Rattle.bdb_base.specs.declared.kinds.Sign.TheVariants.{Plus, Minus}
 use Rattle.bdb_base.specs.declared.kinds.Stmt.{Stmt}
 use Rattle.bdb_base.specs.declared.kinds.Value.{Value}
 use Rattle.bdb_base.specs.declared.tuple.Tuple.{Tuple}
+use Rattle.bdb_base.proofs.OptionLemmas.{some_of, none_and_some, one_there}
 use Rattle.bdb_keep.specs.Tables.{Tables}
 use Rattle.bdb_key.specs.Rows.{mark_bytes}
 use Rattle.bdb_tables.specs.Codec.{place}
 use Rattle.bdb_tables.specs.InUse.{ValKey, IsValKey, val_bytes, val_codec}
-use Rattle.bdb_tables.specs.InUseLaws.{mark_rows_are_one}
 use Rattle.bdb_tables.specs.Marks.{Mark, explicit_of, explicit_sign, sign_by}
 use Rattle.bdb_tables.specs.Names.{number_of}
 use Rattle.bdb_tables.specs.Spans.{AreUnder, IsUnder}
 use Rattle.bdb_tables.specs.Writes.{Gives}
-use Rattle.bdb_tables.proofs.Held.{some_same, none_some}
+use Rattle.bdb_tables.proofs.MarkLemmas.{mark_is}
 use Rattle.bdb_val.specs.Reads.{HasRows, is_of_group}
 use Rattle.bdb_val.specs.Settling.{row_key}
-use Rattle.bdb_val.proofs.HeldLemmas.{some_is}
 use Rattle.bdb_val.proofs.ReadLemmas.{key_fits}
 use Rattle.bdb_entries.proofs.ListedLemmas.{entries_found}
 use Rattle.bdb_decode.specs.Explicit.{AreStated, Paths, TupleRows, ValRow, is_placed, is_placed_by, said, said_by}
 use Rattle.bdb_decode.specs.ExplicitLaws.{HaveNumbers, StatedRowsAreExplicit}
 use Rattle.bdb_decode.specs.Items.{item_of}
 use Rattle.bdb_decode.proofs.RowLemmas.{found_passes}
-
-pub some_one : {X : Type 0} (x y : X) (o : Option X) → o ≡ Some x → o ≡ Some y → x ≡ y
-some_one x y o a b = cc
-
-not_both : {X : Type 0} (x : X) (o : Option X) → o ≡ None → o ≡ Some x → ⊥
-not_both x o a b = cc
-
-pub mark_is : (o : Option Mark) (m : Mark) → option_map mark_bytes o ≡ Some (mark_bytes m) → o ≡ Some m
-mark_is None m e = absurd (none_some (mark_bytes m) e)
-mark_is (Some k) m e = ap Some (mark_rows_are_one k m tt tt (some_same (mark_bytes k) (mark_bytes m) e))
 
 -- ---- what a row that has its place tells
 
@@ -213,7 +202,7 @@ module _ (keys : ℕ → ℕ) (t : Tables) (worlds : Paths) (tuples : TupleRows)
       let e = m.row in
       let k = makes_tells worlds tuples w u s e m.makes in
       let p = placed_tells keys worlds tuples e (pass_at (is_placed keys worlds tuples) rows e h.are.are.placed m.among) in
-      let own : p.tuple ≡ u = some_one p.tuple u (item_of tuples e.0.3) p.tuple_is k.tuple in
+      let own : p.tuple ≡ u = one_there p.tuple u (item_of tuples e.0.3) p.tuple_is k.tuple in
       let key : row_key keys e.0.0 e.0.3 u ≡ e.0 = ap (λ (y : Tuple). row_key keys e.0.0 e.0.3 y) (sym own) ∙ p.key in
       (e.0.0, e.0.3, k.path, k.tuple, ap f key ∙ row_given e m.among ∙ ap Some k.mark)
 
@@ -257,7 +246,7 @@ module _ (keys : ℕ → ℕ) (t : Tables) (worlds : Paths) (tuples : TupleRows)
       go : (o : Option Mark) → f (row_key keys wid tid u) ≡ o → explicit_of (f (row_key keys wid tid u)) ≡ explicit_sign stmts w u
       go None e =
           ap explicit_of e
-          ∙ sym (signs false false (none_but None e Plus (λ x. not_both (Plus, true) None refl x)) (none_but None e Minus (λ x. not_both (Minus, true) None refl x)))
+          ∙ sym (signs false false (none_but None e Plus (λ x. none_and_some (Plus, true) None refl x)) (none_but None e Minus (λ x. none_and_some (Minus, true) None refl x)))
       go (Some (s, false)) e =
           ap explicit_of e
           ∙ sym (signs false false (none_but (Some (s, false)) e Plus (λ x. unmarked s Plus (mark_of_some (s, false) (Plus, true) x)))
@@ -272,7 +261,7 @@ pub stated_rows_are_explicit : StatedRowsAreExplicit
 stated_rows_are_explicit keys t worlds tuples ns stmts f lengths paths numbers h gives consistent = record {
   rows = rows_are;
   sized = λ wid w e. paths.names.sized w wid (paths.names.named wid w e);
-  worlds = λ k fits s. let m = some_is (f k) s in ap is_some (paths.paths k.0 ∙ (given_placed keys t worlds tuples stmts f numbers once h gives k m.0 fits m.1).path_is);
+  worlds = λ k fits s. let m = some_of (f k) s in ap is_some (paths.paths k.0 ∙ (given_placed keys t worlds tuples stmts f numbers once h gives k m.0 fits m.1).path_is);
   explicit = λ wid w tid u p n.
       explicit_is_sign keys t worlds tuples stmts f numbers once h gives consistent wid tid w u
       (key_fits keys (item_of tuples) f t rows_are wid tid u (paths.names.sized w wid (paths.names.named wid w p)) n) (sym (paths.paths wid) ∙ p) n;
@@ -281,10 +270,10 @@ stated_rows_are_explicit keys t worlds tuples ns stmts f lengths paths numbers h
 }
   where
     once : (a b : ℕ) (w : List ℕ) → item_of worlds a ≡ Some w → item_of worlds b ≡ Some w → a ≡ b
-    once a b w x y = some_one a b (number_of ns w) (paths.names.named a w (paths.paths a ∙ x)) (paths.names.named b w (paths.paths b ∙ y))
+    once a b w x y = one_there a b (number_of ns w) (paths.names.named a w (paths.paths a ∙ x)) (paths.names.named b w (paths.paths b ∙ y))
 
     keyed_at : (k : ValKey) → IsValKey k → is_some (f k) ≡ true → (u : Tuple) × (item_of tuples k.3 ≡ Some u) × (row_key keys k.0 k.3 u ≡ k)
-    keyed_at k fits s = let m = some_is (f k) s in let p = given_placed keys t worlds tuples stmts f numbers once h gives k m.0 fits m.1 in (p.tuple, p.tuple_is, p.key)
+    keyed_at k fits s = let m = some_of (f k) s in let p = given_placed keys t worlds tuples stmts f numbers once h gives k m.0 fits m.1 in (p.tuple, p.tuple_is, p.key)
 
     rows_are : HasRows keys (item_of tuples) f t
     rows_are = record { lengths = lengths; tuples = numbers.gives; rows = gives; sized = numbers.sized; keyed = keyed_at }

@@ -2,20 +2,21 @@
 use Rattle.std.proofs.Common.{◌≡◌, ◌∙◌, ◌<◌, ℕ, suc, arith, length, get_or, Bool, true, false, not, ◌&&◌, ◌||◌, nat_eq, List, [], ◌∷◌, filter, Option, Some, None, cond, inl, inr, is_some, refl, ap, sym, subst}
 use Prim.Native.Nat.{zero}
 use Rattle.std.specs.List.{list_any, list_all, AllByRecursion}
-use Rattle.std.proofs.lemmas.Bool.{false≢true, cases_Bool, and_parts, and_from, or_cases, or_left, or_right, cond-true, cond-false, eqb-true, eq-eqb}
+use Rattle.std.proofs.lemmas.Bool.{false≢true, cases_Bool, and_parts, and_from, or_cases, or_left, or_right, cond-true, cond-false, eqb-true, eq-eqb, not-true}
 use Rattle.bdb_base.specs.declared.kinds.Sign.{Sign}
 use Rattle.bdb_base.specs.declared.tuple.Tuple.{Tuple}
 use Rattle.bdb_base.specs.Clash.{clash}
 use Rattle.bdb_base.specs.SameLemmas.{same_sign-Decides}
 use Rattle.bdb_base.proofs.CountLemmas.{list_any-filter_some}
 use Rattle.bdb_base.proofs.ListLemmas.{filter_kept_one, filter_dropped_one}
+use Rattle.bdb_base.proofs.AllLemmas.{all_both}
+use Rattle.bdb_base.proofs.ClashLemmas.{clash_of}
 use Rattle.bdb_tables.proofs.Loops.{all_at_index}
 use Rattle.bdb_tables.specs.Marks.{Mark, sign_of, explicit_of}
 use Rattle.bdb_update.proofs.ExplicitLemmas.{unfiltered}
-use Rattle.bdb_update.proofs.KeyLemmas.{clash_of}
 use Rattle.bdb_val.specs.Settled.{settled_mark, passed_on, is_barred}
 use Rattle.bdb_val.specs.Settling.{mark_in, barred_by, next_mark, AreNamed, are_apart}
-use Rattle.bdb_val.specs.declared.stored.Stored.{Stored}
+use Rattle.bdb_val.specs.declared.stored.StoredRow.{StoredRow}
 use Rattle.bdb_val.proofs.SettlingLemmas.{mark_is_some}
 use Rattle.bdb_val.proofs.StepLemmas.{mark_of_each}
 use Rattle.bdb_decode.specs.Settles.{is_explicit, is_inherited, has_sign, is_fitting, is_passed, settles}
@@ -36,10 +37,6 @@ kept_all P p (x ∷ xs) a = elim (cases_Bool (p x)) [
   | inl e ↦ subst (AllByRecursion P) (sym (filter_kept_one p x xs e)) (a.0 e, kept_all P p xs a.1)
   | inr e ↦ subst (AllByRecursion P) (sym (filter_dropped_one p x xs e)) (kept_all P p xs a.1)
 ]
-
-all_two : {X : Type 0} (P Q R : X → Type 0) (xs : List X) → ((x : X) → P x → Q x → R x) → AllByRecursion P xs → AllByRecursion Q xs → AllByRecursion R xs
-all_two P Q R [] f a b = tt
-all_two P Q R (x ∷ xs) f a b = (f x a.0 b.0, all_two P Q R xs f a.1 b.1)
 
 later_any : {X : Type 0} (p q : X → Bool) (x : X) (xs : List X) → list_any p (filter q xs) ≡ true → list_any p (filter q (x ∷ xs)) ≡ true
 later_any p q x xs h = elim (cases_Bool (q x)) [
@@ -73,7 +70,7 @@ none_mark o m a b = cc
 one_mark : (m n : Mark) → Some m ≡ Some n → m ≡ n
 one_mark m n e = cc
 
-pick : (P : Stored → Type 0) (xs : List Stored) (tid : ℕ) (m : Mark) → AllByRecursion P xs → mark_in xs tid ≡ Some m → (x : Stored) × (P x) × (x.tid ≡ tid) × (x.mark ≡ m)
+pick : (P : StoredRow → Type 0) (xs : List StoredRow) (tid : ℕ) (m : Mark) → AllByRecursion P xs → mark_in xs tid ≡ Some m → (x : StoredRow) × (P x) × (x.tid ≡ tid) × (x.mark ≡ m)
 pick P [] tid m a e = absurd (none_mark (mark_in [] tid) m refl e)
 pick P (x ∷ xs) tid m a e = elim (cases_Bool (nat_eq x.tid tid)) [
   | inl b ↦ (x, a.0, eqb-true x.tid tid b, one_mark x.mark m (sym (cond-true (nat_eq x.tid tid) (Some x.mark) (mark_in xs tid) b) ∙ e))
@@ -84,7 +81,7 @@ one_tuple : (tuple : ℕ → Option Tuple) (a b : ℕ) (t u : Tuple) → tuple a
 one_tuple tuple a b t u p q e = let l : tuple a ≡ tuple b = ap tuple e in cc
 
 -- what explicit rows bar, all rows do
-barred_stated : (keys : ℕ → ℕ) (xs : List Stored) (t : Tuple) (s : Sign) → barred_by keys (filter is_explicit xs) t s ≡ barred_by keys xs t s
+barred_stated : (keys : ℕ → ℕ) (xs : List StoredRow) (t : Tuple) (s : Sign) → barred_by keys (filter is_explicit xs) t s ≡ barred_by keys xs t s
 barred_stated keys [] t s = refl
 barred_stated keys (x ∷ xs) t s =
     let c = clash keys t s x.tuple x.mark.0 in
@@ -94,26 +91,22 @@ barred_stated keys (x ∷ xs) t s =
     ]
 
 -- whether rows bar a signed tuple is told by the length of its relation's key
-pub barred_of : (keys : ℕ → ℕ) (n : ℕ) (xs : List Stored) (t : Tuple) (s : Sign) → n ≡ keys t.rel → barred_by (λ _. n) xs t s ≡ barred_by keys xs t s
+pub barred_of : (keys : ℕ → ℕ) (n : ℕ) (xs : List StoredRow) (t : Tuple) (s : Sign) → n ≡ keys t.rel → barred_by (λ _. n) xs t s ≡ barred_by keys xs t s
 barred_of keys n [] t s e = refl
 barred_of keys n (x ∷ xs) t s e =
     ap (λ b. (x.mark.1 && b) || barred_by (λ _. n) xs t s) (clash_of keys n t s x.tuple x.mark.0 e)
     ∙ ap (λ b. (x.mark.1 && clash keys t s x.tuple x.mark.0) || b) (barred_of keys n xs t s e)
 
-found_kept : (p : Stored → Bool) (xs : List Stored) (tid : ℕ) → is_some (mark_in (filter p xs) tid) ≡ true → is_some (mark_in xs tid) ≡ true
+found_kept : (p : StoredRow → Bool) (xs : List StoredRow) (tid : ℕ) → is_some (mark_in (filter p xs) tid) ≡ true → is_some (mark_in xs tid) ≡ true
 found_kept p xs tid e = mark_is_some xs tid ∙ list_any-filter_some (λ y. nat_eq y.tid tid) p xs (sym (mark_is_some (filter p xs) tid) ∙ e)
 
-split_found : (xs : List Stored) (tid : ℕ) → is_some (mark_in xs tid) ≡ true → (is_some (mark_in (filter is_explicit xs) tid) || is_some (mark_in (filter is_inherited xs) tid)) ≡ true
+split_found : (xs : List StoredRow) (tid : ℕ) → is_some (mark_in xs tid) ≡ true → (is_some (mark_in (filter is_explicit xs) tid) || is_some (mark_in (filter is_inherited xs) tid)) ≡ true
 split_found xs tid e =
     ap (λ b. b || is_some (mark_in (filter is_inherited xs) tid)) (mark_is_some (filter is_explicit xs) tid)
     ∙ ap (λ b. list_any (λ y. nat_eq y.tid tid) (filter is_explicit xs) || b) (mark_is_some (filter is_inherited xs) tid)
     ∙ any_split (λ y. nat_eq y.tid tid) is_explicit xs (sym (mark_is_some xs tid) ∙ e)
 
 -- ---- marks
-
-not_true : (b : Bool) → not b ≡ true → b ≡ false
-not_true true e = absurd (false≢true e)
-not_true false e = refl
 
 signed : (s : Sign) (q : Option Mark) → has_sign s q ≡ true → sign_of q ≡ Some s
 signed s None e = absurd (false≢true e)
@@ -155,22 +148,22 @@ settled_none m bars e = elim (cases_Bool (bars m.0)) [
 
 -- ---- the test
 
-module _ (keys : ℕ → ℕ) (tuple : ℕ → Option Tuple) (own from : List Stored) (a : AreNamed tuple own) (b : AreNamed tuple from) where
-  abbrev stated : List Stored
+module _ (keys : ℕ → ℕ) (tuple : ℕ → Option Tuple) (own from : List StoredRow) (a : AreNamed tuple own) (b : AreNamed tuple from) where
+  abbrev stated : List StoredRow
   stated = filter is_explicit own
 
-  abbrev inherited : List Stored
+  abbrev inherited : List StoredRow
   inherited = filter is_inherited own
 
   abbrev next : Tuple → Option Mark → Option Mark → Option Mark
   next u o q = settled_mark (explicit_of o) (barred_by keys own u) (sign_of q)
 
   -- an inherited row of the world
-  abbrev Fits : Stored → Type 0
+  abbrev Fits : StoredRow → Type 0
   Fits x = (tuple x.tid ≡ Some x.tuple) × (is_inherited x ≡ true → is_fitting keys stated from x ≡ true)
 
   -- a row of the other world
-  abbrev Passes : Stored → Type 0
+  abbrev Passes : StoredRow → Type 0
   Passes y = (tuple y.tid ≡ Some y.tuple) × (is_passed keys stated inherited y ≡ true)
 
   -- each tuple has the row that it is to have, where the test is passed
@@ -181,11 +174,11 @@ module _ (keys : ℕ → ℕ) (tuple : ℕ → Option Tuple) (own from : List St
       parts = and_parts (list_all (is_fitting keys stated from) inherited) (list_all (is_passed keys stated inherited) from) h
 
       fits : AllByRecursion Fits own
-      fits = all_two (λ x. tuple x.tid ≡ Some x.tuple) (λ x. is_inherited x ≡ true → is_fitting keys stated from x ≡ true) Fits own (λ x p q. (p, q)) a
+      fits = all_both (λ x. tuple x.tid ≡ Some x.tuple) (λ x. is_inherited x ≡ true → is_fitting keys stated from x ≡ true) Fits own (λ x p q. (p, q)) a
           (unfiltered (λ x. is_fitting keys stated from x ≡ true) is_inherited own (all_true (is_fitting keys stated from) inherited parts.0))
 
       passes : AllByRecursion Passes from
-      passes = all_two (λ y. tuple y.tid ≡ Some y.tuple) (λ y. is_passed keys stated inherited y ≡ true) Passes from (λ y p q. (p, q)) b (all_true (is_passed keys stated inherited) from parts.1)
+      passes = all_both (λ y. tuple y.tid ≡ Some y.tuple) (λ y. is_passed keys stated inherited y ≡ true) Passes from (λ y p q. (p, q)) b (all_true (is_passed keys stated inherited) from parts.1)
 
       value : (o q : Option Mark) → mark_in own tid ≡ o → mark_in from tid ≡ q → o ≡ next u o q
       value None None e f = refl
@@ -213,7 +206,7 @@ module _ (keys : ℕ → ℕ) (tuple : ℕ → Option Tuple) (own from : List St
             (x.1.1 (ap (λ (k : Mark). not k.1) x.3 ∙ ap not c)) in
             inherited_settled m (barred_by keys own u) q c
             (ap (λ t. barred_by keys own t m.0) (sym same) ∙ ap (λ (k : Mark). barred_by keys own x.0.tuple k.0) (sym x.3)
-            ∙ sym (barred_stated keys own x.0.tuple x.0.mark.0) ∙ not_true (barred_by keys stated x.0.tuple x.0.mark.0) fit.0)
+            ∙ sym (barred_stated keys own x.0.tuple x.0.mark.0) ∙ not-true (barred_by keys stated x.0.tuple x.0.mark.0) fit.0)
             (ap (has_sign m.0) (sym f) ∙ ap (λ i. has_sign m.0 (mark_in from i)) (sym x.2) ∙ ap (λ (k : Mark). has_sign k.0 (mark_in from x.0.tid)) (sym x.3) ∙ fit.1)
       ]
 
@@ -221,17 +214,17 @@ module _ (keys : ℕ → ℕ) (tuple : ℕ → Option Tuple) (own from : List St
   pub next_settles : are_apart own ≡ true → are_apart from ≡ true → ((tid : ℕ) (u : Tuple) → tuple tid ≡ Some u → mark_in own tid ≡ next_mark keys own from tid u) → settles keys own from ≡ true
   next_settles c d h = and_from (list_all (is_fitting keys stated from) inherited) (list_all (is_passed keys stated inherited) from)
       (true_all (is_fitting keys stated from) inherited (kept_all (λ x. is_fitting keys stated from x ≡ true) is_inherited own
-      (all_two (λ x. tuple x.tid ≡ Some x.tuple) (λ x. mark_in own x.tid ≡ Some x.mark) (λ x. is_inherited x ≡ true → is_fitting keys stated from x ≡ true) own fit a (mark_of_each own own (λ _ _ k. k) c))))
+      (all_both (λ x. tuple x.tid ≡ Some x.tuple) (λ x. mark_in own x.tid ≡ Some x.mark) (λ x. is_inherited x ≡ true → is_fitting keys stated from x ≡ true) own fit a (mark_of_each own own (λ _ _ k. k) c))))
       (true_all (is_passed keys stated inherited) from
-      (all_two (λ y. tuple y.tid ≡ Some y.tuple) (λ y. mark_in from y.tid ≡ Some y.mark) (λ y. is_passed keys stated inherited y ≡ true) from pass b (mark_of_each from from (λ _ _ k. k) d)))
+      (all_both (λ y. tuple y.tid ≡ Some y.tuple) (λ y. mark_in from y.tid ≡ Some y.mark) (λ y. is_passed keys stated inherited y ≡ true) from pass b (mark_of_each from from (λ _ _ k. k) d)))
     where
-      fit : (x : Stored) → tuple x.tid ≡ Some x.tuple → mark_in own x.tid ≡ Some x.mark → is_inherited x ≡ true → is_fitting keys stated from x ≡ true
+      fit : (x : StoredRow) → tuple x.tid ≡ Some x.tuple → mark_in own x.tid ≡ Some x.mark → is_inherited x ≡ true → is_fitting keys stated from x ≡ true
       fit x n k i =
-          let told = settled_inherited x.mark (barred_by keys own x.tuple) (mark_in from x.tid) (not_true x.mark.1 i)
+          let told = settled_inherited x.mark (barred_by keys own x.tuple) (mark_in from x.tid) (not-true x.mark.1 i)
           (sym k ∙ h x.tid x.tuple n ∙ ap (λ o. next x.tuple o (mark_in from x.tid)) k) in
           and_from (not (barred_by keys stated x.tuple x.mark.0)) (has_sign x.mark.0 (mark_in from x.tid)) (ap not (barred_stated keys own x.tuple x.mark.0 ∙ told.0)) told.1
 
-      pass : (y : Stored) → tuple y.tid ≡ Some y.tuple → mark_in from y.tid ≡ Some y.mark → is_passed keys stated inherited y ≡ true
+      pass : (y : StoredRow) → tuple y.tid ≡ Some y.tuple → mark_in from y.tid ≡ Some y.mark → is_passed keys stated inherited y ≡ true
       pass y n k = by (mark_in own y.tid) refl
         where
           bars : Bool
@@ -245,14 +238,14 @@ module _ (keys : ℕ → ℕ) (tuple : ℕ → Option Tuple) (own from : List St
 
 -- ---- where a row is found
 
-pub found_here : (rows : List Stored) (i tid : ℕ) (x : Stored) → i < length rows → x ≡ get_or rows i x → are_apart rows ≡ true → x.tid ≡ tid → Some x.mark ≡ mark_in rows tid
+pub found_here : (rows : List StoredRow) (i tid : ℕ) (x : StoredRow) → i < length rows → x ≡ get_or rows i x → are_apart rows ≡ true → x.tid ≡ tid → Some x.mark ≡ mark_in rows tid
 found_here rows i tid x lt is a e =
     sym (ap (mark_in rows) (sym e) ∙ all_at_index (λ y. mark_in rows y.tid ≡ Some y.mark) rows i x lt is (mark_of_each rows rows (λ _ _ k. k) a))
 
-pub found_some : (rows : List Stored) (i tid : ℕ) (x : Stored) → i < length rows → x ≡ get_or rows i x → x.tid ≡ tid → is_some (mark_in rows tid) ≡ true
+pub found_some : (rows : List StoredRow) (i tid : ℕ) (x : StoredRow) → i < length rows → x ≡ get_or rows i x → x.tid ≡ tid → is_some (mark_in rows tid) ≡ true
 found_some [] i tid x lt is e = absurd (omega arith)
 found_some (y ∷ ys) zero tid x lt is e =
-    ap is_some (cond-true (nat_eq y.tid tid) (Some y.mark) (mark_in ys tid) (eq-eqb y.tid tid (ap (λ (z : Stored). z.tid) (sym is) ∙ e)))
+    ap is_some (cond-true (nat_eq y.tid tid) (Some y.mark) (mark_in ys tid) (eq-eqb y.tid tid (ap (λ (z : StoredRow). z.tid) (sym is) ∙ e)))
 found_some (y ∷ ys) (suc i) tid x lt is e = elim (cases_Bool (nat_eq y.tid tid)) [
   | inl b ↦ ap is_some (cond-true (nat_eq y.tid tid) (Some y.mark) (mark_in ys tid) b)
   | inr b ↦ ap is_some (cond-false (nat_eq y.tid tid) (Some y.mark) (mark_in ys tid) b) ∙ found_some ys i tid x (omega arith) is e

@@ -1,6 +1,5 @@
 -- The sets of the tuples and of the states of statements, as tests.
-use Rattle.std.proofs.Common.{◌≡◌, ◌∙◌, ℕ, Bool, true, ◌&&◌, ◌||◌, List, [], ◌∷◌, map, refl, ap}
-use Rattle.std.specs.List.{list_all}
+use Rattle.std.proofs.Common.{◌≡◌, ◌∙◌, ℕ, Bool, true, ◌||◌, List, [], ◌∷◌, map, refl, ap}
 use Rattle.bdb_base.specs.Bases.{has_tuple}
 use Rattle.bdb_base.specs.Order.{path_cmp, tuple_cmp}
 use Rattle.bdb_base.specs.OrderLemmas.{path_exact, tuple_exact, is_eq_tuple_cmp}
@@ -12,13 +11,10 @@ use Rattle.bdb_base.specs.declared.kinds.Stmt.{Stmt}
 use Rattle.bdb_base.specs.declared.tuple.Tuple.{Tuple}
 use Rattle.bdb_base.proofs.ClashLemmas.{same_tuple_turned}
 use Rattle.bdb_base.proofs.SetLemmas.{set_is_ascending, set_keeps_members}
+use Rattle.bdb_base.proofs.ListLemmas.{list_all_same}
 use Rattle.bdb_paths.proofs.StateLemmas.{list_has_states}
 use Rattle.bdb_decode.specs.Explicit.{Paths, TupleRows}
 use Rattle.bdb_decode.specs.Stated.{all_in, all_stated, all_states}
-
-all_alike : {X : Type 0} (f g : X → Bool) → ((x : X) → f x ≡ g x) → (xs : List X) → list_all f xs ≡ list_all g xs
-all_alike f g w [] = refl
-all_alike f g w (x ∷ xs) = ap (λ b. b && list_all f xs) (w x) ∙ ap (λ b. g x && b) (all_alike f g w xs)
 
 member_stated : (stmts : List Stmt) (u : Tuple) → is_member tuple_cmp (map (λ x. x.tuple) stmts) u ≡ has_tuple stmts u
 member_stated [] u = refl
@@ -32,7 +28,7 @@ tuples_ascend stmts set e = ap (ascending tuple_cmp) e ∙ set_is_ascending tupl
 pub tells_stated : (stmts : List Stmt) (set : List Tuple) (tuples : TupleRows) (b : Bool) → set ≡ tuples_of stmts → b ≡ all_in tuple_cmp set tuples → b ≡ all_stated stmts tuples
 tells_stated stmts set tuples b e own =
     own ∙ ap (λ s. all_in tuple_cmp s tuples) e
-    ∙ all_alike (λ (r : ℕ × Tuple). is_member tuple_cmp (tuples_of stmts) r.1) (λ r. has_tuple stmts r.1)
+    ∙ list_all_same (λ (r : ℕ × Tuple). is_member tuple_cmp (tuples_of stmts) r.1) (λ r. has_tuple stmts r.1)
     (λ r. set_keeps_members tuple_exact (map (λ x. x.tuple) stmts) r.1 ∙ member_stated stmts r.1) tuples
 
 pub states_ascend : (stmts : List Stmt) (set : List (List ℕ)) → set ≡ states_of stmts → ascending path_cmp set ≡ true
@@ -41,4 +37,4 @@ states_ascend stmts set e = ap (ascending path_cmp) e ∙ set_is_ascending path_
 pub tells_states : (stmts : List Stmt) (set : List (List ℕ)) (worlds : Paths) (b : Bool) → set ≡ states_of stmts → b ≡ all_in path_cmp set worlds → b ≡ all_states stmts worlds
 tells_states stmts set worlds b e own =
     own ∙ ap (λ s. all_in path_cmp s worlds) e
-    ∙ all_alike (λ (r : ℕ × List ℕ). is_member path_cmp (states_of stmts) r.1) (λ r. is_state stmts r.1) (λ r. list_has_states stmts r.1) worlds
+    ∙ list_all_same (λ (r : ℕ × List ℕ). is_member path_cmp (states_of stmts) r.1) (λ r. is_state stmts r.1) (λ r. list_has_states stmts r.1) worlds

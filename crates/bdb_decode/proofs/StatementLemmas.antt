@@ -1,19 +1,18 @@
 -- Neighbours that ascend make statements that are in order and do not clash.
-use Rattle.std.proofs.Common.{◌≡◌, ◌∙◌, ◌⊎◌, ℕ, Bool, true, false, not, ◌&&◌, ◌||◌, nat_eq, nat_le, List, [], ◌∷◌, length, filter, refl, ap, sym, arith, inl, inr}
+use Rattle.std.proofs.Common.{◌≡◌, ◌∙◌, ◌⊎◌, ℕ, Bool, true, false, not, ◌&&◌, ◌||◌, nat_eq, nat_le, List, [], ◌∷◌, length, filter, refl, ap, sym, inl, inr}
 use Rattle.std.specs.Bool.{MatchBool}
 use Rattle.std.specs.List.{list_all, list_any}
 use Rattle.std.specs.declared.cmp.Ordering.{Ordering}
 use Rattle.std.specs.declared.cmp.Ordering.TheVariants.{Less, Equal, Greater}
 use Rattle.std.specs.Ordering.{nat_cmp, is_eq, is_lt, ordering_then}
 use Rattle.std.specs.Cmp.{IsTotalOrder}
-use Rattle.std.proofs.lemmas.Bool.{cases_Bool, and_parts, and_from, and_right, or_parts, or_from, false≢true, not_from_false, cond-true, cond-false}
-use Rattle.std.proofs.lemmas.Bool.Decides.{nat_tests}
+use Rattle.std.proofs.lemmas.Bool.{cases_Bool, and_parts, and_from, and_right, or_parts, or_from, false≢true, not_from_false, cond-true, cond-false, not-true}
 use Rattle.std.proofs.lemmas.Cmp.{then_total, on_total, nat_cmp_total}
 use Rattle.bdb_base.specs.Bases.{AreStatements, belongs, key_lengths, tuple_count, world_count}
 use Rattle.bdb_base.specs.Clash.{clash, key_of, same_key}
 use Rattle.bdb_base.specs.Limits.{most_statements, most_tuples, most_worlds}
 use Rattle.bdb_base.specs.Order.{row_cmp, path_cmp, tuple_cmp, sign_cmp, statement_cmp}
-use Rattle.bdb_base.specs.OrderLemmas.{path_total, row_total, tuple_total, statement_exact, is_eq_path_cmp, is_eq_tuple_cmp, is_eq_row_cmp}
+use Rattle.bdb_base.specs.OrderLemmas.{path_total, row_total, tuple_total, statement_exact, is_eq_path_cmp, is_eq_tuple_cmp, is_eq_row_cmp, is_eq_nat_cmp}
 use Rattle.bdb_base.specs.Same.{same_path, same_tuple, same_values, same_sign}
 use Rattle.bdb_base.specs.SameLemmas.{same_path-Decides}
 use Rattle.bdb_base.specs.SortedSet.{ascending}
@@ -36,13 +35,6 @@ not_equal_less e = false≢true (ap is_lt e)
 
 not_greater_less : Greater ≡ Less → ⊥
 not_greater_less e = false≢true (ap is_lt e)
-
-untrue : (b : Bool) → not b ≡ true → b ≡ false
-untrue true h = absurd (false≢true h)
-untrue false h = refl
-
-is_eq_nat_cmp : (m n : ℕ) → is_eq (nat_cmp m n) ≡ nat_eq m n
-is_eq_nat_cmp m n = grind (arith, nat_tests)
 
 module _ {X : Type 0} where
   climbs_ascend : (R : X → X → Ordering) → IsTotalOrder R → (xs : List X) → climbs R xs ≡ true → ascending R xs ≡ true
@@ -83,15 +75,15 @@ module _ {X : Type 0} where
   pairs_from_all T (x ∷ xs) h =
       let k = and_parts (not (list_any (T x) (x ∷ xs))) (none_with T (x ∷ xs) xs) h in
       and_from (list_all (λ y. not (T x y)) xs) (pairwise T xs)
-      (list_all_from_none (T x) (λ y. not (T x y)) (λ y e. not_from_false (T x y) e) xs (or_parts (T x x) (list_any (T x) xs) (untrue (list_any (T x) (x ∷ xs)) k.0)).1)
+      (list_all_from_none (T x) (λ y. not (T x y)) (λ y e. not_from_false (T x y) e) xs (or_parts (T x x) (list_any (T x) xs) (not-true (list_any (T x) (x ∷ xs)) k.0)).1)
       (pairs_from_all T xs (list_all_weaker (λ z. not (list_any (T z) (x ∷ xs))) (λ z. not (list_any (T z) xs))
-      (λ z e. not_from_false (list_any (T z) xs) (or_parts (T z x) (list_any (T z) xs) (untrue (list_any (T z) (x ∷ xs)) e)).1) xs k.1))
+      (λ z e. not_from_false (list_any (T z) xs) (or_parts (T z x) (list_any (T z) xs) (not-true (list_any (T z) (x ∷ xs)) e)).1) xs k.1))
 
   none_from : (T : X → X → Bool) (x : X) (ys : List X) → list_all (λ y. not (T x y)) ys ≡ true → list_any (T x) ys ≡ false
   none_from T x [] h = refl
   none_from T x (y ∷ ys) h =
       let k = and_parts (not (T x y)) (list_all (λ z. not (T x z)) ys) h in
-      or_from (T x y) (list_any (T x) ys) (untrue (T x y) k.0) (none_from T x ys k.1)
+      or_from (T x y) (list_any (T x) ys) (not-true (T x y) k.0) (none_from T x ys k.1)
 
   all_from_pairs : (T : X → X → Bool) → ((x y : X) → T x y ≡ T y x) → ((x : X) → T x x ≡ false) → (xs : List X) → pairwise T xs ≡ true → none_with T xs xs ≡ true
   all_from_pairs T t s [] h = refl
@@ -100,7 +92,7 @@ module _ {X : Type 0} where
       and_from (not (list_any (T x) (x ∷ xs))) (none_with T (x ∷ xs) xs)
       (not_from_false (list_any (T x) (x ∷ xs)) (or_from (T x x) (list_any (T x) xs) (s x) (none_from T x xs k.0)))
       (list_all_both (λ z. not (T x z)) (λ z. not (list_any (T z) xs)) (λ z. not (list_any (T z) (x ∷ xs)))
-      (λ z a b. not_from_false (list_any (T z) (x ∷ xs)) (or_from (T z x) (list_any (T z) xs) (t z x ∙ untrue (T x z) a) (untrue (list_any (T z) xs) b)))
+      (λ z a b. not_from_false (list_any (T z) (x ∷ xs)) (or_from (T z x) (list_any (T z) xs) (t z x ∙ not-true (T x z) a) (not-true (list_any (T z) xs) b)))
       xs k.0 (all_from_pairs T t s xs k.1))
 
   -- another order of the same list, where it agrees for pairs that fail a test
@@ -120,7 +112,7 @@ module _ {X : Type 0} where
           let m = and_parts (p y) (list_all p ys) a in
           let k = and_parts (not (T x y)) (list_all (λ z. not (T x z)) ys) t in
           let u = and_parts (is_lt (R x y)) (list_all (λ z. is_lt (R x z)) ys) h in
-          and_from (is_lt (S x y)) (list_all (λ z. is_lt (S x z)) ys) (ap is_lt (w x y own m.0 (is_lt-Less (R x y) u.0) (untrue (T x y) k.0))) (above own ys m.1 k.1 u.1)
+          and_from (is_lt (S x y)) (list_all (λ z. is_lt (S x z)) ys) (ap is_lt (w x y own m.0 (is_lt-Less (R x y) u.0) (not-true (T x y) k.0))) (above own ys m.1 k.1 u.1)
 
   filter_passes : (q : X → Bool) (xs : List X) → list_all q (filter q xs) ≡ true
   filter_passes q [] = refl

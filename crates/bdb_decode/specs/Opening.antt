@@ -3,6 +3,7 @@ use Rattle.std.specs.Prelude.{◌≡◌, ◌⊎◌, ℕ, Result, Ok, Err}
 use Rattle.std.specs.FinMap as tables
 use Rattle.bdb_base.specs.Bases.{Contents}
 use Rattle.bdb_base.specs.Causes.{HasCause}
+use Rattle.bdb_tables.specs.Raw.{Stays}
 use Rattle.bdb_catalog.specs.Bases.{StoresValid}
 use Rattle.bdb_catalog.specs.Opening.{StandFor, StoredFormerly}
 use Rattle.bdb_entries.specs.Format.{HasFormat}
@@ -10,7 +11,7 @@ use Rattle.bdb_decode.specs.declared.opening.OpenError.{OpenError}
 use Rattle.bdb_decode.specs.declared.opening.OpenError.TheVariants.{Damaged, Format, Fault, Memory}
 use Rattle.bdb_decode.specs.declared.opening.Stand.{Stand}
 use Rattle.bdb_decode.specs.declared.opening.Stand.TheVariants.{Empty, Stored, Former}
-use Rattle.bdb_keep.specs.Seen.{Seen, IsAtRest, IsDropped, GoesOn, NeverFall}
+use Rattle.bdb_keep.specs.Seen.{Seen, IsAtRest, IsDropped, NeverFall}
 use Rattle.bdb_keep.specs.Tables.{Tables}
 
 -- how tables stand for a base: they have no row, or store it in this format, or in the one before it
@@ -30,11 +31,6 @@ pub record HaveOtherFormat (t : Tables) (n : ℕ) : Type 0 where
   pub other : n ≡ 3 → ⊥
   pub former : n ≡ 2 → ⊥
   pub none : (b : Contents) → StandFor t b → ⊥
-
--- the rows are as they were, and a transaction that ran still runs
-pub record Stays (old new : Seen) : Type 0 where
-  pub kept : new.kept ≡ old.kept
-  pub goes_on : GoesOn old new
 
 -- what a call that reads tables of any bytes leaves: only where the keeper or memory failed no transaction runs
 abbrev pub LeavesRead : {T : Type 0} → Seen → Seen → Result T OpenError → Type 0

@@ -16,7 +16,7 @@ use Rattle.bdb_tables.specs.Writes.{Gives}
 use Rattle.bdb_val.specs.Reads.{AreReadUnder, world_prefix}
 use Rattle.bdb_val.specs.Settled.{HasStates}
 use Rattle.bdb_val.specs.Settling.{are_apart, row_key}
-use Rattle.bdb_val.specs.declared.stored.Stored.{Stored}
+use Rattle.bdb_val.specs.declared.stored.StoredRow.{StoredRow}
 use Rattle.bdb_entries.specs.Tuples.{HasTuples}
 use Rattle.bdb_decode.specs.Explicit.{ArePlaced, Paths, TupleRows, ValRow}
 use Rattle.bdb_decode.specs.ExplicitLaws.{HavePaths}
@@ -46,14 +46,14 @@ PlacedRowsAreKeyed = (keys : ℕ → ℕ) (t : Tables) (worlds : Paths) (tuples 
 -- ---- worlds, each with the number to which its suffix link leads
 
 -- rows are those of the world to which a link leads, no two of one tuple; none where it leads to none
-pub record AreLinked (t : Tables) (link : Option ℕ) (rows : List Stored) : Type 0 where
+pub record AreLinked (t : Tables) (link : Option ℕ) (rows : List StoredRow) : Type 0 where
   pub read : MatchOption link (rows ≡ []) (λ m. AreReadUnder t (world_prefix m) rows)
   pub apart : are_apart rows ≡ true
 
 -- the rows of a world, and those of the world to which its suffix link leads, pass the test, or they do not
 pub record TellsWorld (keys : ℕ → ℕ) (t : Tables) (x : ℕ × Option ℕ) (b : Bool) : Type 0 where
-  pub own : List Stored
-  pub from : List Stored
+  pub own : List StoredRow
+  pub from : List StoredRow
   pub own_read : AreReadUnder t (world_prefix x.0) own
   pub from_read : MatchOption x.1 (from ≡ []) (λ m. AreReadUnder t (world_prefix m) from)
   pub told : b ≡ settles keys own from

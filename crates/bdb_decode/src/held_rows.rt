@@ -13,14 +13,14 @@ use crate::settles::are_settled;
 use bdb_base::Catalog;
 use bdb_keep::Keeper;
 use bdb_tables::TabError;
-use bdb_val::{Stored, read_world};
+use bdb_val::{StoredRow, read_world};
 use std::alloc::{AllocError, Global};
 
 // The rows of the world to which a suffix link leads, kept for the next world that has the same link; none where it leads to none.
 #[derive(Drop)]
 struct Linked {
     link: Option<u32>,
-    rows: Vec<Stored>,
+    rows: Vec<StoredRow>,
 }
 
 /// Whether the tables hold the rows of the worlds, for the statements that the explicit rows are. The worlds are those that
@@ -151,7 +151,7 @@ fn read_linked<K: Keeper>(
     keeper: &mut K,
     catalog: &Catalog,
     link: Option<u32>,
-) -> Result<Vec<Stored>, TabError>
+) -> Result<Vec<StoredRow>, TabError>
     requires grammar { InGrammar (K.seen keeper.old).kept }
     requires keyed { AreKeyed (key_lengths catalog.now.rels) (K.seen keeper.old).kept }
     ensures rows { IfOk result (λ rows. AreLinked (K.seen keeper.old).kept link rows.items) }
@@ -172,7 +172,7 @@ fn read_rows<K: Keeper>(
     keeper: &mut K,
     catalog: &Catalog,
     wid: u32,
-) -> Result<Vec<Stored>, TabError>
+) -> Result<Vec<StoredRow>, TabError>
     requires grammar { InGrammar (K.seen keeper.old).kept }
     requires keyed { AreKeyed (key_lengths catalog.now.rels) (K.seen keeper.old).kept }
     ensures rows { IfOk result (λ rows. AreReadUnder (K.seen keeper.old).kept (world_prefix wid)
@@ -190,8 +190,8 @@ fn read_rows<K: Keeper>(
 fn settles(
     alloc: Global,
     catalog: &Catalog,
-    own: Vec<Stored>,
-    from: &[Stored],
+    own: Vec<StoredRow>,
+    from: &[StoredRow],
 ) -> Result<bool, AllocError>
     requires from { are_apart from.now ≡ true }
     ensures { IfOk result
@@ -207,9 +207,9 @@ fn settles(
 
 // Adds a row to the explicit ones, or else to the inherited ones.
 fn put_row(
-    stated: &mut Vec<Stored>,
-    inherited: &mut Vec<Stored>,
-    row: Stored,
+    stated: &mut Vec<StoredRow>,
+    inherited: &mut Vec<StoredRow>,
+    row: StoredRow,
 ) -> Result<(), AllocError>
     ensures stated { OnOk result (stated.new.items ≡ stated.old.items ++ filter is_explicit
         (row ∷ [])) }

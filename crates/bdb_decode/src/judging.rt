@@ -14,10 +14,10 @@ use crate::linking::hold_rows_of;
 use crate::parts::{Parts, raw_parts};
 use crate::whole::raw_base_statements;
 use bdb_base::{Base, List};
-use bdb_entries::{Format, TABLES, is_bare, is_in_grammar, others_are_bare, read_format, told};
-use bdb_former::respelled_copy;
+use bdb_copy::respelled_copy;
+use bdb_entries::{Format, TABLES, is_bare, is_in_grammar, others_are_bare, read_format};
 use bdb_keep::Keeper;
-use bdb_tables::TabError;
+use bdb_tables::{TabError, table_error};
 use std::alloc::Global;
 
 /// This format.
@@ -122,7 +122,7 @@ fn judge_former<K: Keeper>(alloc: Global, keeper: &mut K) -> Result<Judgement, T
 {
     let mut copy = match respelled_copy(alloc, keeper) {
         Ok(copy) => copy,
-        Err(error) => return Err(told(error)),
+        Err(error) => return Err(table_error(error)),
     };
     match raw_base(alloc, &mut copy) {
         Ok(Some(base)) => Ok(Judgement::Former(base)),

@@ -8,16 +8,16 @@ ghost use Rattle.bdb_decode.specs.Settles.{are_settled, has_sign, is_fitting, is
 
 use crate::keys::key_length_in;
 use bdb_base::{Catalog, Sign, clash};
-use bdb_val::Stored;
+use bdb_val::StoredRow;
 
 /// Whether a world with these explicit rows and these inherited ones is settled over the rows of the world to which its suffix
 /// link leads, with keys as long as the relations of the catalog say. Where the rows come in one order each list is gone along
 /// once.
 pub fn are_settled(
     catalog: &Catalog,
-    stated: &[Stored],
-    inherited: &[Stored],
-    from: &[Stored],
+    stated: &[StoredRow],
+    inherited: &[StoredRow],
+    from: &[StoredRow],
 ) -> bool
     requires from { are_apart from.now ≡ true }
     ensures { result ≡ are_settled (key_lengths catalog.now.rels)
@@ -27,7 +27,12 @@ pub fn are_settled(
 }
 
 // Whether each inherited row is passed on from the other world.
-fn all_fit(catalog: &Catalog, stated: &[Stored], inherited: &[Stored], from: &[Stored]) -> bool
+fn all_fit(
+    catalog: &Catalog,
+    stated: &[StoredRow],
+    inherited: &[StoredRow],
+    from: &[StoredRow],
+) -> bool
     requires { are_apart from.now ≡ true }
     ensures { result ≡ list_all (is_fitting (key_lengths catalog.now.rels) stated.now from.now)
         inherited.now }
@@ -44,9 +49,9 @@ fn all_fit(catalog: &Catalog, stated: &[Stored], inherited: &[Stored], from: &[S
 // Whether a row clashes with no explicit one, and its tuple has its sign in the other world. The search begins at a place.
 fn is_fitting(
     catalog: &Catalog,
-    stated: &[Stored],
-    from: &[Stored],
-    row: &Stored,
+    stated: &[StoredRow],
+    from: &[StoredRow],
+    row: &StoredRow,
     at: &mut usize,
 ) -> bool
     requires { are_apart from.now ≡ true }
@@ -69,7 +74,12 @@ fn has_sign(sign: Sign, mark: Option<(Sign, bool)>) -> bool
 }
 
 // Whether each row of the other world is passed on, or clashes with an explicit one.
-fn all_passed(catalog: &Catalog, stated: &[Stored], inherited: &[Stored], from: &[Stored]) -> bool
+fn all_passed(
+    catalog: &Catalog,
+    stated: &[StoredRow],
+    inherited: &[StoredRow],
+    from: &[StoredRow],
+) -> bool
     ensures { result ≡ list_all (is_passed (key_lengths catalog.now.rels) stated.now inherited.now)
         from.now }
 {
@@ -85,9 +95,9 @@ fn all_passed(catalog: &Catalog, stated: &[Stored], inherited: &[Stored], from: 
 // Whether a row clashes with an explicit one, or its tuple has a row. The search begins at a place.
 fn is_passed(
     catalog: &Catalog,
-    stated: &[Stored],
-    inherited: &[Stored],
-    row: &Stored,
+    stated: &[StoredRow],
+    inherited: &[StoredRow],
+    row: &StoredRow,
     at: &mut usize,
 ) -> bool
     ensures { result ≡ is_passed (key_lengths catalog.now.rels) stated.now inherited.now row.now }
@@ -102,7 +112,7 @@ fn is_passed(
 }
 
 // Whether a row clashes with an explicit one.
-fn is_barred(catalog: &Catalog, rows: &[Stored], row: &Stored) -> bool
+fn is_barred(catalog: &Catalog, rows: &[StoredRow], row: &StoredRow) -> bool
     ensures { result ≡ barred_by (key_lengths catalog.now.rels)
         rows.now row.now.tuple row.now.mark.0 }
 {
@@ -110,14 +120,14 @@ fn is_barred(catalog: &Catalog, rows: &[Stored], row: &Stored) -> bool
 }
 
 // The same, where keys have the length `n`.
-fn is_barred_by(n: u32, rows: &[Stored], row: &Stored) -> bool
+fn is_barred_by(n: u32, rows: &[StoredRow], row: &StoredRow) -> bool
     ensures { result ≡ barred_by (λ _. n) rows.now row.now.tuple row.now.mark.0 }
 {
     rows.iter().any(|other| bars(n, other, row))
 }
 
 // Whether a row is explicit, and another one clashes with it.
-fn bars(n: u32, other: &Stored, row: &Stored) -> bool
+fn bars(n: u32, other: &StoredRow, row: &StoredRow) -> bool
     ensures { result ≡ (other.now.mark.1 && clash (λ _. n)
         row.now.tuple row.now.mark.0 other.now.tuple other.now.mark.0) }
 {
@@ -125,7 +135,7 @@ fn bars(n: u32, other: &Stored, row: &Stored) -> bool
 }
 
 // The mark of a tuple's row. The search begins at a place, and leaves that of the row there.
-fn mark_from(rows: &[Stored], tid: u32, at: &mut usize) -> Option<(Sign, bool)>
+fn mark_from(rows: &[StoredRow], tid: u32, at: &mut usize) -> Option<(Sign, bool)>
     requires { are_apart rows.now ≡ true }
     ensures { result ≡ mark_in rows.now tid }
 {
@@ -140,7 +150,7 @@ fn mark_from(rows: &[Stored], tid: u32, at: &mut usize) -> Option<(Sign, bool)>
 }
 
 // Whether a tuple has a row. The search begins at a place, and leaves that of the row there.
-fn has_from(rows: &[Stored], tid: u32, at: &mut usize) -> bool
+fn has_from(rows: &[StoredRow], tid: u32, at: &mut usize) -> bool
     ensures { result ≡ is_some (mark_in rows.now tid) }
 {
     for place in *at..rows.len() {
@@ -154,7 +164,7 @@ fn has_from(rows: &[Stored], tid: u32, at: &mut usize) -> bool
 }
 
 // The mark of the first row of a tuple.
-fn first_mark(rows: &[Stored], tid: u32) -> Option<(Sign, bool)>
+fn first_mark(rows: &[StoredRow], tid: u32) -> Option<(Sign, bool)>
     ensures { result ≡ mark_in rows.now tid }
 {
     for row in rows {

@@ -11,9 +11,10 @@ mod sources;
 mod streams;
 mod undoing;
 
-use bdb_base::{List, Txt};
+use bdb_base::List;
 use bdb_io::{MemSink, MemSource};
-use bdb_keep::MemKeeper;
+use bdb_memory::MemKeeper;
+use bdb_samples::words_of;
 use bdb_top::run;
 use std::alloc::Global;
 use std::test::Fail;
@@ -91,15 +92,6 @@ fn quiet_keeper(alloc: Global) -> MemKeeper
     MemKeeper::new(alloc, List::new(alloc))
 }
 
-/// The words of a line.
-fn words_of(alloc: Global, line: &str) -> Result<List<Txt>, Fail> {
-    let mut words = List::new(alloc);
-    for word in line.split_whitespace() {
-        words.push(Txt::try_new(alloc, word)?)?;
-    }
-    Ok(words)
-}
-
 /// The status of the words of a line over a source, a sink and a keeper.
 fn ran(
     alloc: Global,
@@ -140,6 +132,49 @@ fn ran_with(alloc: Global, source: MemSource, out: MemSink, keeper: MemKeeper) -
     ensures idle { IfOk result (λ left. left.keeper.seen.running ≡ false) }
 {
     left_by(alloc, "run", source, out, keeper)
+}
+
+/// What a script leaves of which nothing fails.
+fn left_by_none(alloc: Global, script: &[u8]) -> Result<Left, Fail>
+    ensures idle { IfOk result (λ left. left.keeper.seen.running ≡ false) }
+{
+    ran_with(
+        alloc,
+        quiet_source(alloc, script)?,
+        quiet_sink(alloc)?,
+        quiet_keeper(alloc),
+    )
+}
+
+/// What a script leaves of which this call of the keeper fails.
+fn left_by_call(alloc: Global, script: &[u8], call: u32) -> Result<Left, Fail>
+    ensures idle { IfOk result (λ left. left.keeper.seen.running ≡ false) }
+{
+    let keeper = MemKeeper::new(alloc, only(alloc, call)?);
+    ran_with(
+        alloc,
+        quiet_source(alloc, script)?,
+        quiet_sink(alloc)?,
+        keeper,
+    )
+}
+
+/// What a script leaves of which this write fails, and takes no byte.
+fn left_by_write(alloc: Global, script: &[u8], write: u32) -> Result<Left, Fail> {
+    let out = MemSink::new(alloc, only(alloc, write)?, 0, ROOM)?;
+    ran_with(
+        alloc,
+        quiet_source(alloc, script)?,
+        out,
+        quiet_keeper(alloc),
+    )
+}
+
+/// What a script leaves of which this read fails, where a read gives so many bytes.
+fn left_by_read(alloc: Global, script: &[u8], step: usize, read: u32) -> Result<Left, Fail> {
+    let text = Vec::from_slice(alloc, script)?;
+    let source = MemSource::new(text, step, only(alloc, read)?);
+    ran_with(alloc, source, quiet_sink(alloc)?, quiet_keeper(alloc))
 }
 
 /// The status and the replies of a script over a keeper, with no other device that fails.
@@ -221,12 +256,7 @@ fn the_script_is_carried_out(rt: HostRuntime) -> Result<(), Fail> {
     let alloc = rt.alloc();
     assert_eq!(rt; commands_in(SCRIPT), COMMANDS);
     assert_eq!(rt; replies_in(REPLIES), COMMANDS);
-    let left = ran_with(
-        alloc,
-        quiet_source(alloc, SCRIPT)?,
-        quiet_sink(alloc)?,
-        quiet_keeper(alloc),
-    )?;
+    let left = left_by_none(alloc, SCRIPT)?;
     assert_eq!(rt; left.status, 0);
     assert_eq!(rt; left.out.bytes(), REPLIES);
     assert_eq!(rt; left.keeper.commits(), 14);

@@ -4,6 +4,7 @@ use Rattle.std.specs.Bool.{MatchBool}
 use Rattle.std.specs.FinMap as tables
 use Rattle.std.proofs.lemmas.Bool.{cases_Bool, eqb-true}
 use Rattle.std.proofs.lemmas.Bool.Decides.{nat_tests}
+use Rattle.bdb_base.proofs.OptionLemmas.{none_is_some}
 use Rattle.bdb_keep.specs.Tables.{LieInTables, Tables}
 use Rattle.bdb_tables.specs.Codec.{Codec, IsEntryOf, TableFits}
 use Rattle.bdb_tables.specs.Grammar.{IsEntry}
@@ -11,7 +12,6 @@ use Rattle.bdb_tables.specs.InUse.{meta_codec, plain_codec}
 use Rattle.bdb_tables.specs.Spans.{AreUnder}
 use Rattle.bdb_tables.specs.Stored.{is_table}
 use Rattle.bdb_tables.specs.Writes.{Gives}
-use Rattle.bdb_tables.proofs.Held.{none_some}
 use Rattle.bdb_entries.specs.Format.{IsFormatDamaged, TellsFormat, format_of}
 use Rattle.bdb_entries.specs.Reading.{AreEntries, IsBare, Misfits, OthersAreBare}
 use Rattle.bdb_entries.proofs.ReadLemmas.{past, under_fits}
@@ -29,7 +29,7 @@ rows_tell t (e ∷ f ∷ es) h = let no = h.sorted in absurd cc
 
 pub misfit_is_damaged : (t : Tables) → Misfits meta_codec t → IsFormatDamaged t
 misfit_is_damaged t m = record {
-  some = λ bare. m (λ k r found. absurd (none_some r (sym (bare k) ∙ found)));
+  some = λ bare. m (λ k r found. absurd (none_is_some r (sym (bare k) ∙ found)));
   none = λ n h. m h.fits;
 }
 
@@ -53,7 +53,7 @@ bare_if t n k None e h are = e
 bare_if t n k (Some r) e h are = absurd (no_entry n k r h (are k r e))
 
 pub bare_are_entries : (t : Tables) (n : ℕ) → 13 ≤ n → (b : Bool) → MatchBool b (IsBare t n) (IsBare t n → ⊥) → MatchBool b (AreEntries t n) (AreEntries t n → ⊥)
-bare_are_entries t n h true bare = λ k r found. absurd (none_some r (sym (bare k) ∙ found))
+bare_are_entries t n h true bare = λ k r found. absurd (none_is_some r (sym (bare k) ∙ found))
 bare_are_entries t n h false some = λ are. some (λ k. bare_if t n k (tables.get t (n ∷ k)) refl h are)
 
 -- ---- tables with no row
@@ -68,7 +68,7 @@ outside_bare t lie bare n k out (Some r) e = let in_tables = lie (n ∷ k) r e i
 pub all_bare : (t : Tables) → LieInTables t → ((n : ℕ) → 12 ≤ n → n ≤ 15 → IsBare t n) → OthersAreBare t
 all_bare t lie bare = record {
   plain = record {
-    fits = λ k r found. absurd (none_some r (sym (bare 12 (omega arith) (omega arith) k) ∙ found));
+    fits = λ k r found. absurd (none_is_some r (sym (bare 12 (omega arith) (omega arith) k) ∙ found));
     rows = λ key fits. bare 12 (omega arith) (omega arith) (plain_codec.key_bytes key);
     written = λ key fits. tt;
   };

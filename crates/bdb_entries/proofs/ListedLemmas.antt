@@ -1,5 +1,5 @@
 -- A table has what a function gives exactly where its rows are those that the function lists.
-use Rattle.std.proofs.Common.{◌≡◌, ◌∙◌, ℕ, Bool, true, false, List, [], ◌∷◌, Option, Some, None, map, refl, ap, sym, subst}
+use Rattle.std.proofs.Common.{◌≡◌, ◌∙◌, ℕ, true, false, List, [], ◌∷◌, Option, Some, None, map, refl, ap, sym, subst}
 use Rattle.std.specs.Prelude.{T}
 use Rattle.std.specs.List.{list_all, AllByRecursion}
 use Rattle.std.specs.declared.cmp.Ordering.{Ordering}
@@ -11,6 +11,7 @@ use Rattle.std.specs.FinMap.Entries.{is_sorted, below_all, same_entries}
 use Rattle.std.proofs.lemmas.Bool.{and_parts, and_from, cond-true, cond-false, false≢true}
 use Rattle.std.proofs.lemmas.Cmp.{nat_list_cmp_total, tied_itself}
 use Rattle.bdb_base.specs.SortedSet.{ascending}
+use Rattle.bdb_base.proofs.BoolLemmas.{is_T, T_of}
 use Rattle.bdb_keep.specs.Tables.{Tables, bytes_cmp}
 use Rattle.bdb_key.proofs.Forms.{same_bytes}
 use Rattle.bdb_tables.specs.Codec.{Codec, HasOneKey, HasOneRow, place}
@@ -18,13 +19,6 @@ use Rattle.bdb_tables.specs.Spans.{AreUnder, IsUnder, entry_bytes, entry_cmp}
 use Rattle.bdb_tables.specs.Writes.{Gives}
 use Rattle.bdb_entries.specs.Listed.{Lists}
 use Rattle.bdb_entries.proofs.ReadLemmas.{found_entry, under_fits}
-
-T_of : (b : Bool) → b ≡ true → T b
-T_of b e = subst T (sym e) tt
-
-is_T : (b : Bool) → T b → b ≡ true
-is_T true h = refl
-is_T false h = absurd h
 
 head_key : (a b c d : List ℕ) (es fs : List (List ℕ × List ℕ)) → (a, b) ∷ es ≡ (c, d) ∷ fs → a ≡ c
 head_key a b c d es fs e = ap key e

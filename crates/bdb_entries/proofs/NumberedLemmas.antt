@@ -4,13 +4,15 @@ use Prim.Native.Nat.{zero}
 use Rattle.std.specs.Prelude.{MatchOption}
 use Rattle.std.specs.List.{list_all, slice_get, AllByRecursion}
 use Rattle.std.specs.Option.{option_map}
-use Rattle.std.specs.Ordering.{is_lt, is_eq, nat_cmp, eq_by_cmp}
+use Rattle.std.specs.Ordering.{is_lt, is_eq, eq_by_cmp}
 use Rattle.std.specs.FinMap.{find}
 use Rattle.std.proofs.lemmas.Bool.{and_parts, and_from, cases_Bool, cond-true, cond-false, false≢true, eqb-true, eq-eqb}
 use Rattle.std.proofs.lemmas.Bool.Decides.{nat_tests}
 use Rattle.bdb_base.specs.SortedSet.{ascending}
 use Rattle.bdb_base.specs.declared.kinds.RelDef.{RelDef}
 use Rattle.bdb_base.specs.declared.kinds.UserSlot.{UserSlot}
+use Rattle.bdb_base.specs.OrderLemmas.{is_eq_nat_cmp}
+use Rattle.bdb_base.proofs.Numbers.{less_number}
 use Rattle.bdb_keep.specs.Tables.{Tables, bytes_cmp}
 use Rattle.bdb_key.specs.Bytes.{num_bytes}
 use Rattle.bdb_key.specs.Grammar.{IsNum}
@@ -28,9 +30,6 @@ use Rattle.bdb_entries.proofs.ListedLemmas.{gives_under, under_gives, under_is_o
 
 -- ---- numbers that run on
 
-same_number : (a b : ℕ) → is_eq (nat_cmp a b) ≡ nat_eq a b
-same_number a b = grind (arith, nat_tests)
-
 other_number : (k n : ℕ) → k < n → nat_eq k n ≡ false
 other_number k n h = grind (arith, nat_tests)
 
@@ -39,9 +38,6 @@ both_later k n = grind (arith, nat_tests)
 
 not_first : (k : ℕ) → nat_eq (suc k) 0 ≡ false
 not_first k = grind (arith, nat_tests)
-
-less_number : (m n : ℕ) → m < n → is_lt (nat_cmp m n) ≡ true
-less_number m n h = grind (arith, nat_tests)
 
 module _ {X : Type 0} where
   numbered_are : (n : ℕ) (xs : List X) → are_numbered n (numbered n xs) ≡ true
@@ -82,7 +78,7 @@ module _ {Row : Type 0} (tab : ℕ) (rows : Rows Row) where
   codec = codec_of tab number_keys rows
 
   numbers_tie : (a b : ℕ) → IsNum a → IsNum b → eq_by_cmp bytes_cmp (num_bytes a) (num_bytes b) ≡ nat_eq a b
-  numbers_tie a b fa fb = ap is_eq (numbers_in_order a b fa fb) ∙ same_number a b
+  numbers_tie a b fa fb = ap is_eq (numbers_in_order a b fa fb) ∙ is_eq_nat_cmp a b
 
   found_item : (n : ℕ) (xs : List Row) → AllByRecursion (IsUnder codec []) (numbered n xs) → (k : ℕ) → IsNum k
       → option_map rows.bytes (item_at n xs k) ≡ find bytes_cmp (num_bytes k) (map (entry_bytes codec) (numbered n xs))

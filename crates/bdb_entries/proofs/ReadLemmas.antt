@@ -1,19 +1,18 @@
 -- What a table has whose rows are read one after the other.
-use Rattle.std.proofs.Common.{◌≡◌, ℕ, Bool, true, false, cond, List, [], ◌∷◌, ◌++◌, Option, Some, None, Ok, map, refl, sym, ap, subst, ◌∙◌, inl, inr}
+use Rattle.std.proofs.Common.{◌≡◌, ℕ, Bool, true, false, cond, List, [], ◌∷◌, ◌++◌, Option, Some, None, map, refl, sym, ap, subst, ◌∙◌, inl, inr}
 use Rattle.std.specs.Prelude.{MatchOption}
 use Rattle.std.specs.Bool.{MatchBool}
 use Rattle.std.specs.Ordering.{eq_by_cmp}
 use Rattle.std.specs.List.{AllByRecursion}
 use Rattle.std.specs.FinMap.{find}
 use Rattle.std.proofs.lemmas.Bool.{cases_Bool}
-use Rattle.bdb_keep.specs.Calls.{IsRead}
-use Rattle.bdb_keep.specs.Seen.{Seen}
+use Rattle.bdb_base.proofs.OptionLemmas.{none_is_some, same_some}
 use Rattle.bdb_keep.specs.Tables.{Tables, bytes_cmp, IsLeastFrom, NoneFrom}
+use Rattle.bdb_keep.proofs.RowsLemmas.{same_place}
 use Rattle.bdb_tables.specs.Codec.{Codec, IsEntryOf, TableFits}
 use Rattle.bdb_tables.specs.Raw.{IsForeignFrom}
 use Rattle.bdb_tables.specs.Spans.{entry_bytes, IsUnder, AreUnder, HasNextUnder}
-use Rattle.bdb_tables.proofs.Held.{same_place, some_same, none_some, at_true}
-use Rattle.bdb_tables.proofs.Loops.{steps_ok}
+use Rattle.bdb_tables.proofs.Held.{at_true}
 use Rattle.bdb_tables.proofs.SpanLemmas.{Covers, rows_more, rows_end}
 use Rattle.bdb_entries.specs.Reading.{IsBare}
 
@@ -21,7 +20,7 @@ module _ {Key Row : Type 0} where
   -- what is found among entries is one of them
   pub found_entry : (c : Codec Key Row) (es : List (Key × Row)) → AllByRecursion (IsUnder c []) es
       → (k r : List ℕ) → find bytes_cmp k (map (entry_bytes c) es) ≡ Some r → IsEntryOf c k r
-  found_entry c [] h k r found = absurd (none_some r found)
+  found_entry c [] h k r found = absurd (none_is_some r found)
   found_entry c (e ∷ es) h k r found = elim (cases_Bool (eq_by_cmp bytes_cmp k (c.key_bytes e.0))) [
     | inl same ↦ record {
       key = e.0;
@@ -29,7 +28,7 @@ module _ {Key Row : Type 0} where
       key_reads = record { fits = h.0.key; spelled = sym (same_place k (c.key_bytes e.0) same) };
       row_reads = record {
         fits = h.0.row;
-        spelled = some_same (c.row_bytes e.1) r (sym (ap (λ b. cond b (Some (c.row_bytes e.1)) (find bytes_cmp k (map (entry_bytes c) es))) same) ∙ found);
+        spelled = same_some (c.row_bytes e.1) r (sym (ap (λ b. cond b (Some (c.row_bytes e.1)) (find bytes_cmp k (map (entry_bytes c) es))) same) ∙ found);
       };
     }
     | inr other ↦ found_entry c es h.1 k r (sym (ap (λ b. cond b (Some (c.row_bytes e.1)) (find bytes_cmp k (map (entry_bytes c) es))) other) ∙ found)
@@ -68,8 +67,4 @@ past P Q b e h = subst (λ v. MatchBool v P Q) e h
 
 -- a table with a least row isn't bare
 pub some_row : (t : Tables) (n : ℕ) (low key row : List ℕ) (b : Bool) → b ≡ true → MatchBool b (IsLeastFrom t n low key row) (NoneFrom t n low) → IsBare t n → ⊥
-some_row t n low key row b e h bare = none_some row (sym (bare key) ∙ (at_true b (IsLeastFrom t n low key row) (NoneFrom t n low) e h).found)
-
--- a reading that went on ends so with any other answer
-pub read_with : {T U E : Type 0} (old new : Seen) (x : T) (y : U) (fault : E) → IsRead {T = T} {E = E} old new (Ok x) fault → IsRead {T = U} {E = E} old new (Ok y) fault
-read_with old new x y fault r = record { rest = r.rest; kept = r.kept; writes = r.writes; counts = r.counts; steps = steps_ok old new y fault r.steps.ok }
+some_row t n low key row b e h bare = none_is_some row (sym (bare key) ∙ (at_true b (IsLeastFrom t n low key row) (NoneFrom t n low) e h).found)

@@ -1,21 +1,19 @@
 -- The two tables of tuples.
-use Rattle.std.proofs.Common.{◌≡◌, ◌∙◌, ℕ, Bool, true, false, cond, List, [], ◌∷◌, Option, Some, None, map, refl, ap, sym, subst, arith}
+use Rattle.std.proofs.Common.{◌≡◌, ◌∙◌, ℕ, Bool, true, false, cond, List, [], ◌∷◌, Option, Some, None, map, refl, ap, sym, subst}
 use Rattle.std.specs.Prelude.{MatchOption}
 use Rattle.std.specs.Bool.{MatchBool}
 use Rattle.std.specs.List.{AllByRecursion}
 use Rattle.std.specs.Option.{option_map}
-use Rattle.std.specs.declared.cmp.Ordering.{Ordering}
-use Rattle.std.specs.declared.cmp.Ordering.TheVariants.{Less, Equal, Greater}
-use Rattle.std.specs.Ordering.{is_eq, nat_cmp}
+use Rattle.std.specs.Ordering.{is_eq}
 use Rattle.std.specs.FinMap as tables
 use Rattle.std.specs.FinMap.{find}
 use Rattle.std.proofs.lemmas.Bool.{cond-true, cond-false}
-use Rattle.std.proofs.lemmas.Bool.Decides.{nat_tests}
-use Rattle.bdb_base.specs.Order.{tuple_cmp}
-use Rattle.bdb_base.specs.OrderLemmas.{tuple_exact}
 use Rattle.bdb_base.specs.declared.kinds.Value.{Value}
 use Rattle.bdb_base.specs.declared.kinds.Value.TheVariants.{Int, Text}
 use Rattle.bdb_base.specs.declared.tuple.Tuple.{Tuple}
+use Rattle.bdb_base.proofs.AllLemmas.{all_weaker, all_both}
+use Rattle.bdb_base.proofs.Numbers.{same_number}
+use Rattle.bdb_base.proofs.BaseLemmas.{tied_tuple_is}
 use Rattle.bdb_keep.specs.Tables.{Tables, bytes_cmp}
 use Rattle.bdb_key.specs.Grammar.{HasPlainText, IsPlainValue}
 use Rattle.bdb_key.specs.Rows.{IsTupleRow, MayBeTuple}
@@ -86,39 +84,20 @@ module _ {Key Row : Type 0} (c : Codec Key Row) where
       by None d w = absurd cc
       by (Some x) d w = let same : c.row_bytes x ≡ c.row_bytes r = cc in ap Some (one x r w row same)
 
-pub all_from : {X : Type 0} (P Q : X → Type 0) (xs : List X) → ((x : X) → P x → Q x) → AllByRecursion P xs → AllByRecursion Q xs
-all_from P Q [] f h = tt
-all_from P Q (x ∷ xs) f h = (f x h.0, all_from P Q xs f h.1)
-
-pub all_both : {X : Type 0} (P Q R : X → Type 0) (xs : List X) → ((x : X) → P x → Q x → R x) → AllByRecursion P xs → AllByRecursion Q xs → AllByRecursion R xs
-all_both P Q R [] f h k = tt
-all_both P Q R (x ∷ xs) f h k = (f x h.0 k.0, all_both P Q R xs f h.1 k.1)
-
 -- ---- tuples
-
-pub same_number : (a b : ℕ) → is_eq (nat_cmp a b) ≡ true → a ≡ b
-same_number a b e = grind (arith, nat_tests)
-
-is_equal : (o : Ordering) → is_eq o ≡ true → o ≡ Equal
-is_equal Less e = absurd cc
-is_equal Equal e = refl
-is_equal Greater e = absurd cc
-
-same_tuples : (a b : Tuple) → is_eq (tuple_cmp a b) ≡ true → a ≡ b
-same_tuples a b e = tuple_exact.exact a b (is_equal (tuple_cmp a b) e)
 
 text_of : (v : Value) → IsPlainValue v → HasPlainText v
 text_of (Int n) h = tt
 text_of (Text b) h = h
 
 tuple_may_be : (u : Tuple) → IsTupleRow u → MayBeTuple u
-tuple_may_be u h = record { some = h.some; texts = all_from IsPlainValue HasPlainText u.vals text_of h.plain }
+tuple_may_be u h = record { some = h.some; texts = all_weaker IsPlainValue HasPlainText u.vals text_of h.plain }
 
 pub rows_may_be : (t : Tables) (es : List (ℕ × Tuple)) → AreUnder tuple_codec t [] es → AllByRecursion (MayBeTurned tuple_ix_codec) es
-rows_may_be t es h = all_from (IsUnder tuple_codec []) (MayBeTurned tuple_ix_codec) es (λ e u. record { key = tuple_may_be e.1 u.row; row = tt }) h.each
+rows_may_be t es h = all_weaker (IsUnder tuple_codec []) (MayBeTurned tuple_ix_codec) es (λ e u. record { key = tuple_may_be e.1 u.row; row = tt }) h.each
 
 pub turned_may_be : (t : Tables) (ds : List (Tuple × ℕ)) → AreUnder tuple_ix_codec t [] ds → AllByRecursion (MayBeTurned tuple_codec) ds
-turned_may_be t ds h = all_from (IsUnder tuple_ix_codec []) (MayBeTurned tuple_codec) ds (λ e u. record { key = tt; row = tuple_may_be e.0 u.key }) h.each
+turned_may_be t ds h = all_weaker (IsUnder tuple_ix_codec []) (MayBeTurned tuple_codec) ds (λ e u. record { key = tt; row = tuple_may_be e.0 u.key }) h.each
 
 -- where each table's rows are in the other one, they are the tuples and their numbers
 pub are_tuples : (t : Tables) (es : List (ℕ × Tuple)) (ds : List (Tuple × ℕ)) → AreUnder tuple_codec t [] es → AreUnder tuple_ix_codec t [] ds
@@ -133,8 +112,8 @@ are_tuples t es ds h k turned back = record {
         let under = item_all tuple_codec same_number (IsUnder tuple_codec []) es h.each tid u e in
         given_is tuple_ix_codec number_rows_are_one t ts.number number u under.row tid under.key (item_all tuple_codec same_number (IsTurned tuple_ix_codec t) es turned tid u e);
     numbered = λ u tid e.
-        let under = item_all tuple_ix_codec same_tuples (IsUnder tuple_ix_codec []) ds k.each u tid e in
-        given_is tuple_codec tuple_rows_are_one t ts.tuple give tid under.row u under.key (item_all tuple_ix_codec same_tuples (IsTurned tuple_codec t) ds back u tid e);
+        let under = item_all tuple_ix_codec tied_tuple_is (IsUnder tuple_ix_codec []) ds k.each u tid e in
+        given_is tuple_codec tuple_rows_are_one t ts.tuple give tid under.row u under.key (item_all tuple_ix_codec tied_tuple_is (IsTurned tuple_codec t) ds back u tid e);
     sized = λ tid u e. (item_all tuple_codec same_number (IsUnder tuple_codec []) es h.each tid u e).key;
   };
 }

@@ -1,13 +1,13 @@
 // Tables with no row.
-ghost use Rattle.std.specs.Prelude.{◌≡◌, ◌≤◌, IfOk};
+ghost use Rattle.std.specs.Prelude.{◌≤◌, IfOk};
 ghost use Rattle.std.specs.Bool.{MatchBool};
 ghost use Rattle.bdb_keep.specs.Calls.{IsRead};
 ghost use Rattle.bdb_keep.specs.Tables.{LieInTables};
 ghost use Rattle.bdb_entries.specs.Reading.{IsBare, OthersAreBare};
 ghost use Rattle.bdb_tables.specs.Reading.{OnlyReads};
 
-use bdb_keep::{KeepError, Keeper};
-use bdb_tables::TabError;
+use bdb_keep::Keeper;
+use bdb_tables::{TabError, table_error};
 use std::alloc::Global;
 
 /// The first of the tables that have no row in this format: that of statements by path, and those behind it.
@@ -46,16 +46,6 @@ pub fn is_bare<K: Keeper>(alloc: Global, keeper: &mut K, tab: u8) -> Result<bool
     match keeper.next(tab, &[], &mut key, &mut row) {
         Ok(true) => Ok(false),
         Ok(false) => Ok(true),
-        Err(error) => Err(told(error)),
-    }
-}
-
-/// A keeper's error as a table's.
-pub fn told(error: KeepError) -> TabError
-    ensures { result ≡ TabError.Fault → error ≡ KeepError.Fault }
-{
-    match error {
-        KeepError::Fault => TabError::Fault,
-        KeepError::Memory => TabError::Memory,
+        Err(error) => Err(table_error(error)),
     }
 }

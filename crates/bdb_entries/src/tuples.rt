@@ -6,11 +6,10 @@ ghost use Rattle.bdb_keep.specs.Calls.{IsRead};
 ghost use Rattle.bdb_tables.specs.Reading.{OnlyReads};
 ghost use Rattle.bdb_entries.specs.Tuples.{AreTuples, HaveNoTuples, IsTurned, MayBeTurned};
 
-use crate::bare::told;
 use crate::reading::raw_rows;
 use bdb_base::Tuple;
 use bdb_keep::Keeper;
-use bdb_tables::{Tab, TabError, TupleIx, TupleTab};
+use bdb_tables::{Tab, TabError, TupleIx, TupleTab, table_error};
 use std::alloc::{AllocError, Global};
 
 /// The tuples by number. None exactly where the two tables of tuples do not tell of one another.
@@ -88,7 +87,7 @@ fn is_turned<T: Tab, K: Keeper>(
     match keeper.get(T::NUMBER, &key, &mut found) {
         Ok(true) => Ok(are_same(&found, &content)),
         Ok(false) => Ok(false),
-        Err(error) => Err(told(error)),
+        Err(error) => Err(table_error(error)),
     }
 }
 

@@ -164,7 +164,7 @@ fn is_users_name(name: &Txt) -> bool
 }
 
 // What has a name.
-trait Named {
+trait HasName {
     // the bytes of the name
     ghost name_of: { Self → List ℕ };
 
@@ -172,7 +172,7 @@ trait Named {
         ensures { result.now ≡ name_of self.now };
 }
 
-impl Named for ColDef {
+impl HasName for ColDef {
     ghost name_of = { λ c. c.name };
 
     fn name(&self) -> &Txt {
@@ -180,7 +180,7 @@ impl Named for ColDef {
     }
 }
 
-impl Named for RelDef {
+impl HasName for RelDef {
     ghost name_of = { λ r. r.name };
 
     fn name(&self) -> &Txt {
@@ -189,7 +189,7 @@ impl Named for RelDef {
 }
 
 // Whether names are plain, and no two alike.
-fn are_names<X: Named>(items: &[X]) -> bool
+fn are_names<X: HasName>(items: &[X]) -> bool
     ensures { result ≡ (are_distinct (map X.name_of items.now) && list_all
         (λ x. is_plain (X.name_of x)) items.now) }
 {
@@ -197,7 +197,7 @@ fn are_names<X: Named>(items: &[X]) -> bool
 }
 
 // Whether each name is plain.
-fn all_plain<X: Named>(items: &[X]) -> bool
+fn all_plain<X: HasName>(items: &[X]) -> bool
     ensures { result ≡ list_all (λ x. is_plain (X.name_of x)) items.now }
 {
     items.iter().all(|item| is_plain(item.name()))
@@ -205,14 +205,14 @@ fn all_plain<X: Named>(items: &[X]) -> bool
 
 // Whether no two names are alike.
 #[tactic(auto, using(crate::proofs::CatalogLemmas::differ_are_distinct))]
-fn differ<X: Named>(items: &[X]) -> bool
+fn differ<X: HasName>(items: &[X]) -> bool
     ensures { result ≡ are_distinct (map X.name_of items.now) }
 {
     names_differ(items)
 }
 
 // Whether no name is that of a later one.
-fn names_differ<X: Named>(items: &[X]) -> bool
+fn names_differ<X: HasName>(items: &[X]) -> bool
     ensures { result ≡ names_differ X.name_of items.now }
 {
     let mut rest = items;
@@ -226,7 +226,7 @@ fn names_differ<X: Named>(items: &[X]) -> bool
 }
 
 // Whether one of these has a name.
-fn has_name<X: Named>(items: &[X], name: &Txt) -> bool
+fn has_name<X: HasName>(items: &[X], name: &Txt) -> bool
     ensures { result ≡ list_any (λ x. same_text name.now (X.name_of x)) items.now }
 {
     items.iter().any(|item| is_same(name, item.name()))

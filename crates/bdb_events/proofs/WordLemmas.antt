@@ -5,6 +5,7 @@ use Rattle.std.specs.Char.{to_ascii_lowercase}
 use Rattle.std.specs.Cmp.Lexicographic.{pointwise}
 use Rattle.std.proofs.lemmas.Bool.{cases_Bool, cond-true, cond-false, false≢true}
 use Rattle.std.proofs.lemmas.Slice.Eq.{bytes_eq-Decides}
+use Rattle.bdb_base.proofs.OptionLemmas.{none_is_some, same_some}
 use Rattle.bdb_lex.specs.declared.token.Token.{Token}
 use Rattle.bdb_lex.specs.declared.token.Token.TheVariants.{Word, Text, Num, Comma, Dot, ParenL, ParenR, Eq, Ne, Lt, Le, Gt, Ge}
 use Rattle.bdb_lex.specs.Tokens.{tokens_of}
@@ -15,32 +16,26 @@ use Rattle.bdb_multi.specs.declared.kinds.Line.TheVariants.{Begin, Commit, Abort
 use Rattle.bdb_events.specs.Pieces.{word_of, only_word, line_by, line_of}
 use Rattle.bdb_events.specs.Forms.{IsOnly, IsLine, LinesAreRead}
 
-no_word : (w : List ℕ) → None ≡ Some w → ⊥
-no_word w e = cc
-
-same_word : (v w : List ℕ) → Some v ≡ Some w → v ≡ w
-same_word v w e = cc
-
 word_is : (t : Token) (w : List ℕ) → word_of t ≡ Some w → t ≡ Word w
-word_is (Word v) w e = ap Word (same_word v w e)
-word_is (Text v) w e = absurd (no_word w e)
-word_is (Num v) w e = absurd (no_word w e)
-word_is Comma w e = absurd (no_word w e)
-word_is Dot w e = absurd (no_word w e)
-word_is ParenL w e = absurd (no_word w e)
-word_is ParenR w e = absurd (no_word w e)
-word_is Eq w e = absurd (no_word w e)
-word_is Ne w e = absurd (no_word w e)
-word_is Lt w e = absurd (no_word w e)
-word_is Le w e = absurd (no_word w e)
-word_is Gt w e = absurd (no_word w e)
-word_is Ge w e = absurd (no_word w e)
+word_is (Word v) w e = ap Word (same_some v w e)
+word_is (Text v) w e = absurd (none_is_some w e)
+word_is (Num v) w e = absurd (none_is_some w e)
+word_is Comma w e = absurd (none_is_some w e)
+word_is Dot w e = absurd (none_is_some w e)
+word_is ParenL w e = absurd (none_is_some w e)
+word_is ParenR w e = absurd (none_is_some w e)
+word_is Eq w e = absurd (none_is_some w e)
+word_is Ne w e = absurd (none_is_some w e)
+word_is Lt w e = absurd (none_is_some w e)
+word_is Le w e = absurd (none_is_some w e)
+word_is Gt w e = absurd (none_is_some w e)
+word_is Ge w e = absurd (none_is_some w e)
 
 only_is : (o : Option (List Token)) (w : List ℕ) → only_word o ≡ Some w → o ≡ Some (Word w ∷ [])
-only_is None w e = absurd (no_word w e)
-only_is (Some []) w e = absurd (no_word w e)
+only_is None w e = absurd (none_is_some w e)
+only_is (Some []) w e = absurd (none_is_some w e)
 only_is (Some (t ∷ [])) w e = ap (λ u. Some (u ∷ [])) (word_is t w e)
-only_is (Some (t ∷ u ∷ ts)) w e = absurd (no_word w e)
+only_is (Some (t ∷ u ∷ ts)) w e = absurd (none_is_some w e)
 
 -- a line whose only token is a keyword, by its only word
 found : (k line : List ℕ) (h : IsOnly k line) → only_word (tokens_of line) ≡ Some h.word
@@ -52,11 +47,11 @@ made k line w e same = record { word = w; tokens = (tokens_are_spelled line (Wor
 -- a line of another word, or of none
 other : (k line w : List ℕ) → only_word (tokens_of line) ≡ Some w → is_keyword k w ≡ false → IsOnly k line → ⊥
 other k line w e differs h =
-    let same : w ≡ h.word = same_word w h.word (sym e ∙ found k line h) in
+    let same : w ≡ h.word = same_some w h.word (sym e ∙ found k line h) in
     false≢true (sym differs ∙ (ap (is_keyword k) same ∙ h.same))
 
 none : (k line : List ℕ) → only_word (tokens_of line) ≡ None → IsOnly k line → ⊥
-none k line e h = no_word h.word (sym e ∙ found k line h)
+none k line e h = none_is_some h.word (sym e ∙ found k line h)
 
 -- a word that is one keyword is no other
 differ : (k l w : List ℕ) → is_keyword k w ≡ true → pointwise nat_eq (map to_ascii_lowercase k) (map to_ascii_lowercase l) ≡ false → is_keyword l w ≡ false

@@ -6,7 +6,8 @@ ghost use Rattle.std.specs.Prelude.{◌≡◌, false};
 
 use bdb_base::{List, Txt};
 use bdb_io::{MemSink, MemSource};
-use bdb_keep::{Keeper, MemKeeper};
+use bdb_keep::Keeper;
+use bdb_memory::MemKeeper;
 use bdb_sql::SqlKeeper;
 use bdb_top::run;
 use std::alloc::{AllocError, Global};
@@ -53,7 +54,7 @@ enum Outcome {
     Differs(usize),
     /// It wrote the replies, and ended with another status, this one.
     Ended(u8),
-    /// It wasn't run: a file of it can't be read, or memory is wanting.
+    /// It wasn't run: a file of it can't be read, or memory runs out.
     NotRun,
 }
 

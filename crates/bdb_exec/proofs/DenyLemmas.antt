@@ -1,26 +1,26 @@
 -- Rows of one key, and when the rows of a world deny a tuple.
-use Rattle.std.proofs.Common.{◌≡◌, ◌∙◌, ℕ, suc, ◌≤◌, ◌<◌, ◌^◌, Bool, true, false, not, ◌&&◌, ◌||◌, cond, nat_eq, nat_lt, List, [], ◌∷◌, ◌++◌, Option, Some, None, length, map, filter, take, drop, refl, ap, sym, subst, arith}
+use Rattle.std.proofs.Common.{◌≡◌, ◌∙◌, ℕ, ◌≤◌, ◌<◌, ◌^◌, Bool, true, false, not, ◌&&◌, ◌||◌, cond, nat_eq, nat_lt, List, [], ◌∷◌, ◌++◌, Option, Some, None, length, map, filter, take, drop, refl, ap, sym, subst, arith}
 use Rattle.std.specs.List.{list_any, list_all, AllByRecursion}
-use Rattle.std.specs.Ordering.{is_eq}
 use Rattle.std.proofs.lemmas.Bool.{and_parts, and_from, cond-true, cond-false, false≢true, false_from_ne_true, eqb-true, eq-eqb}
 use Rattle.std.proofs.lemmas.Bool.Decides.{nat_tests}
-use Rattle.std.proofs.lemmas.List.{append_assoc}
+use Rattle.std.proofs.lemmas.List.{append_assoc, take-take, take-append-drop, length-take-le}
 use Rattle.bdb_base.specs.Clash.{clash, same_key, key_of}
-use Rattle.bdb_base.specs.Conditions.{compare_so}
-use Rattle.bdb_base.specs.Order.{value_cmp}
 use Rattle.bdb_base.specs.Same.{same_values, same_tuple}
 use Rattle.bdb_base.specs.SameLemmas.{same_values-Decides, same_tuple-Decides}
 use Rattle.bdb_base.specs.Segments.{is_prefix}
-use Rattle.bdb_base.specs.declared.kinds.Cmp.TheVariants.{Eq}
 use Rattle.bdb_base.specs.declared.kinds.Sign.{Sign}
 use Rattle.bdb_base.specs.declared.kinds.Sign.TheVariants.{Plus, Minus}
 use Rattle.bdb_base.specs.declared.kinds.Value.{Value}
 use Rattle.bdb_base.specs.declared.tuple.Tuple.{Tuple}
+use Rattle.bdb_base.proofs.BoolLemmas.{same_tests}
+use Rattle.bdb_base.proofs.ListLemmas.{take_short}
+use Rattle.bdb_base.proofs.AllLemmas.{all_both, all_filter}
+use Rattle.bdb_base.proofs.SegmentLemmas.{is_prefix_shorter}
 use Rattle.bdb_keep.specs.Tables.{Tables}
-use Rattle.bdb_key.specs.Bytes.{num_bytes, value_bytes, values_bytes, vals_bytes}
+use Rattle.bdb_key.specs.Bytes.{num_bytes, values_bytes, vals_bytes}
 use Rattle.bdb_key.specs.Grammar.{IsNum, ArePlain, AreKeyVals}
-use Rattle.bdb_key.proofs.Compared.{values_tie}
 use Rattle.bdb_key.proofs.Readings.{num_form}
+use Rattle.bdb_key.proofs.Compared.{take_plain, values_append}
 use Rattle.bdb_plan.specs.Running.{plus_tuples}
 use Rattle.bdb_plan.specs.Sight.{rows_deny}
 use Rattle.bdb_tables.specs.Codec.{HasRow}
@@ -30,18 +30,17 @@ use Rattle.bdb_tables.specs.InUseLaws.{vals_are_one, mark_rows_are_one}
 use Rattle.bdb_tables.specs.Marks.{Mark}
 use Rattle.bdb_tables.specs.Names.{leads_to}
 use Rattle.bdb_tables.specs.Spans.{AreUnder, IsUnder}
-use Rattle.bdb_tables.specs.Beginnings.{is_written}
+use Rattle.bdb_base.specs.Bases.{is_written}
 use Rattle.bdb_tables.proofs.PartLemmas.{vals_form}
-use Rattle.bdb_tables.proofs.BeginningLemmas.{values_part}
-use Rattle.bdb_tables.proofs.ListLemmas.{all_filter, prefix_append, prefix_rest, prefix_shorter}
+use Rattle.bdb_tables.proofs.PrefixLemmas.{values_part, all_written}
+use Rattle.bdb_tables.proofs.ListLemmas.{prefix_append, prefix_rest}
 use Rattle.bdb_exec.specs.Keys.{begins_so, of_key, rows_of_key}
 use Rattle.bdb_exec.specs.Readable.{CanBeRun}
-use Rattle.bdb_exec.specs.Rows.{IsNumberOf, signed_of, mark_denies, row_denies, world_prefix, key_prefix}
+use Rattle.bdb_exec.specs.Rows.{IsNumberOf, signed_of, mark_denies, row_denies, relation_prefix, key_prefix}
 use Rattle.bdb_exec.specs.Seen.{rows_at, signed_in, signed_under, sight_of}
-use Rattle.bdb_exec.proofs.LengthLemmas.{keys_sized, take_and_drop, take_long, take_plain, take_short, take_take, take_whole}
-use Rattle.bdb_exec.proofs.LookingLemmas.{all_written}
+use Rattle.bdb_exec.proofs.LengthLemmas.{keys_sized, take_whole}
 use Rattle.bdb_exec.proofs.TypedLemmas.{raw}
-use Rattle.bdb_exec.proofs.WorldLemmas.{AreTyped, StandsForTuple, typed_under, typed_rows, shown, signed_is, has_row, tuple_named, all_told, all_both}
+use Rattle.bdb_exec.proofs.WorldLemmas.{AreTyped, StandsForTuple, typed_under, typed_rows, shown, signed_is, has_row, tuple_named, all_told}
 
 -- ---- tests and lists
 
@@ -51,11 +50,6 @@ pair k m = (k, m)
 first : List (List ℕ × List ℕ) → List ℕ × List ℕ
 first [] = ([], [])
 first (x ∷ xs) = x
-
-pub both_ways : (a b : Bool) → (a ≡ true → b ≡ true) → (b ≡ true → a ≡ true) → a ≡ b
-both_ways true b f g = sym (f refl)
-both_ways false true f g = g refl
-both_ways false false f g = refl
 
 pub filter_narrow : {X : Type 0} (p q : X → Bool) (xs : List X) → ((x : X) → p x ≡ true → q x ≡ true) → filter p xs ≡ filter p (filter q xs)
 filter_narrow p q [] f = refl
@@ -76,24 +70,12 @@ filter_map f p (x ∷ xs) = by (filter_map f p xs) (p (f x))
     by rest true = ap (λ r. f x ∷ r) rest
     by rest false = rest
 
-pub length_filter : {X : Type 0} (p : X → Bool) (xs : List X) → length (filter p xs) ≤ length xs
-length_filter p [] = omega arith
-length_filter p (x ∷ xs) = by (length_filter p xs) (p x)
-  where
-    by : length (filter p xs) ≤ length xs → (b : Bool) → length (cond b (x ∷ filter p xs) (filter p xs)) ≤ length (x ∷ xs)
-    by rest true = omega (arith, rest)
-    by rest false = omega (arith, rest)
-
-pub length_map : {X Y : Type 0} (f : X → Y) (xs : List X) → length (map f xs) ≡ length xs
-length_map f [] = refl
-length_map f (x ∷ xs) = ap suc (length_map f xs)
-
 -- ---- beginnings
 
 -- the world and the relation of a key
-pub world_parts : (w rel : ℕ) → IsNum w → IsNum rel → (k : ValKey) → IsValKey k → is_prefix (world_prefix w rel) (val_bytes k) ≡ true → (k.0 ≡ w) × (k.1 ≡ rel)
+pub world_parts : (w rel : ℕ) → IsNum w → IsNum rel → (k : ValKey) → IsValKey k → is_prefix (relation_prefix w rel) (val_bytes k) ≡ true → (k.0 ≡ w) × (k.1 ≡ rel)
 world_parts w rel nw nr k f e =
-    let s = prefix_rest (world_prefix w rel) (val_bytes k) e in
+    let s = prefix_rest (relation_prefix w rel) (val_bytes k) e in
     let one = num_form k.0 w (num_bytes k.1 ++ vals_bytes k.2 ++ num_bytes k.3) (num_bytes rel ++ s.0) f.world nw s.1 in
     let two = num_form k.1 rel (vals_bytes k.2 ++ num_bytes k.3) s.0 f.rel nr one.1 in
     (one.0, two.0)
@@ -111,10 +93,6 @@ key_part w rel n vs nw nr few nn nv k f e =
     let one = num_form k.0 w (num_bytes k.1 ++ vals_bytes k.2 ++ num_bytes k.3) (num_bytes rel ++ num_bytes n ++ (values_bytes vs ++ s.0)) f.world nw s.1 in
     let two = num_form k.1 rel (vals_bytes k.2 ++ num_bytes k.3) (num_bytes n ++ (values_bytes vs ++ s.0)) f.rel nr one.1 in
     values_of n vs k.2 k.3 s.0 few nn nv f.key two.1
-
-values_append : (xs ys : List Value) → values_bytes (xs ++ ys) ≡ values_bytes xs ++ values_bytes ys
-values_append [] ys = refl
-values_append (x ∷ xs) ys = ap (λ (r : List ℕ). value_bytes x ++ r) (values_append xs ys) ∙ sym (append_assoc (value_bytes x) (values_bytes xs) (values_bytes ys))
 
 begins_with : (w rel n : ℕ) (vs rest : List Value) (k : ValKey) → k.0 ≡ w → k.1 ≡ rel → k.2 ≡ vs ++ rest → length (vs ++ rest) ≡ n → is_prefix (key_prefix n w rel vs) (val_bytes k) ≡ true
 begins_with w rel n vs rest k a b c many =
@@ -144,19 +122,6 @@ group_begins w rel vs k a b c =
 
 -- ---- the first values of a tuple
 
-is_equal_value : (x v : Value) → is_eq (value_cmp x v) ≡ true → x ≡ v
-is_equal_value x v e = by (value_cmp x v) refl e
-  where
-    by : (o : Rattle.std.specs.declared.cmp.Ordering.Ordering) → value_cmp x v ≡ o → is_eq o ≡ true → x ≡ v
-    by Rattle.std.specs.declared.cmp.Ordering.TheVariants.Less a b = absurd (false≢true b)
-    by Rattle.std.specs.declared.cmp.Ordering.TheVariants.Equal a b = values_tie x v a
-    by Rattle.std.specs.declared.cmp.Ordering.TheVariants.Greater a b = absurd (false≢true b)
-
--- a value that equals one, where it is known, is that one
-pub equal_value : (o : Option Value) (v : Value) → compare_so Eq o (Some v) ≡ true → o ≡ Some v
-equal_value None v e = absurd (false≢true e)
-equal_value (Some x) v e = ap Some (is_equal_value x v e)
-
 -- a tuple begins with values exactly where its first ones are these
 has_begun : (vs : List Value) (u : Tuple) → take (length vs) u.vals ≡ vs → begins_so vs u ≡ true
 has_begun vs u e = (same_values-Decides (take (length vs) u.vals) vs).1 e
@@ -167,19 +132,19 @@ begun vs u e = (same_values-Decides (take (length vs) u.vals) vs).0 e
 -- ---- rows of one world and relation
 
 module _ (t : Tables) (h : CanBeRun t) (w rel : ℕ) (nw : IsNum w) (nr : IsNum rel) where
-  pub rows_of : (sight_of t).rows w rel ≡ signed_under t (world_prefix w rel)
+  pub rows_of : (sight_of t).rows w rel ≡ signed_under t (relation_prefix w rel)
   unfolding sight_of
-  rows_of = cond-true (nat_lt rel (2 ^ 32)) (signed_under t (world_prefix w rel)) [] (below rel nr)
+  rows_of = cond-true (nat_lt rel (2 ^ 32)) (signed_under t (relation_prefix w rel)) [] (below rel nr)
     where
       below : (n : ℕ) → n < 2 ^ 32 → nat_lt n (2 ^ 32) ≡ true
       below n lt = grind (arith, nat_tests)
 
   pub all : List (ValKey × Mark)
-  all = (typed_rows t (world_prefix w rel) h.rows.fits).0
+  all = (typed_rows t (relation_prefix w rel) h.rows.fits).0
 
-  pub are_typed : AreTyped t (world_prefix w rel) all
+  pub are_typed : AreTyped t (relation_prefix w rel) all
   unfolding all
-  are_typed = (typed_rows t (world_prefix w rel) h.rows.fits).1
+  are_typed = (typed_rows t (relation_prefix w rel) h.rows.fits).1
 
   -- a row of the world and the relation, with its tuple
   pub record IsHere (e : ValKey × Mark) : Type 0 where
@@ -192,7 +157,7 @@ module _ (t : Tables) (h : CanBeRun t) (w rel : ℕ) (nw : IsNum w) (nr : IsNum 
     pub of_rel : u.rel ≡ rel
     pub vals : key_of (sight_of t).keys u ≡ e.0.2
 
-  here : (e : ValKey × Mark) → IsUnder val_codec (world_prefix w rel) e → StandsForTuple t h e → IsHere e
+  here : (e : ValKey × Mark) → IsUnder val_codec (relation_prefix w rel) e → StandsForTuple t h e → IsHere e
   here e a k =
       let p = world_parts w rel nw nr e.0 a.key a.begins in
       let q = and_parts (nat_eq k.0.rel e.0.1) (same_values (key_of (sight_of t).keys k.0) e.0.2) k.2 in
@@ -208,34 +173,34 @@ module _ (t : Tables) (h : CanBeRun t) (w rel : ℕ) (nw : IsNum w) (nr : IsNum 
       }
 
   pub all_here : AllByRecursion IsHere all
-  all_here = all_both (IsUnder val_codec (world_prefix w rel)) (StandsForTuple t h) IsHere all here are_typed.each (all_told t h (world_prefix w rel) all are_typed)
+  all_here = all_both (IsUnder val_codec (relation_prefix w rel)) (StandsForTuple t h) IsHere all here are_typed.each (all_told t h (relation_prefix w rel) all are_typed)
 
   pub shown_all : (sight_of t).rows w rel ≡ map (signed_of t) all
-  shown_all = rows_of ∙ shown t (world_prefix w rel) all are_typed
+  shown_all = rows_of ∙ shown t (relation_prefix w rel) all are_typed
 
   -- a row's key begins as its tuple does
   first_at : (e : ValKey × Mark) (k : IsHere e) (m : ℕ) → m ≤ (sight_of t).keys k.u.rel → take m e.0.2 ≡ take m k.u.vals
-  first_at e k m le = ap (take m) (sym k.vals) ∙ take_take m ((sight_of t).keys k.u.rel) k.u.vals le
+  first_at e k m le = ap (take m) (sym k.vals) ∙ take-take m ((sight_of t).keys k.u.rel) k.u.vals le
 
   -- it has as many values as the relation's keys
   many_at : (e : ValKey × Mark) (k : IsHere e) → length e.0.2 ≡ (sight_of t).keys rel
   many_at e k =
-      ap length (sym k.vals) ∙ take_long ((sight_of t).keys k.u.rel) k.u.vals (h.whole e.0.3 k.u k.named) ∙ ap (λ (r : ℕ). (sight_of t).keys r) k.of_rel
+      ap length (sym k.vals) ∙ length-take-le ((sight_of t).keys k.u.rel) k.u.vals (h.whole e.0.3 k.u k.named) ∙ ap (λ (r : ℕ). (sight_of t).keys r) k.of_rel
 
   -- ---- rows whose keys go on with some bytes
 
   module _ (more : List ℕ) where
     abbrev goes_on : ValKey × Mark → Bool
-    goes_on e = is_prefix (world_prefix w rel ++ more) (val_bytes e.0)
+    goes_on e = is_prefix (relation_prefix w rel ++ more) (val_bytes e.0)
 
-    rows_narrow : rows_at t (val_codec.number ∷ (world_prefix w rel ++ more)) ≡ map (raw val_codec) (filter goes_on all)
+    rows_narrow : rows_at t (val_codec.number ∷ (relation_prefix w rel ++ more)) ≡ map (raw val_codec) (filter goes_on all)
     rows_narrow =
-        filter_narrow (λ e. is_prefix (val_codec.number ∷ (world_prefix w rel ++ more)) e.0) (λ e. is_prefix (val_codec.number ∷ world_prefix w rel) e.0) (Rattle.std.specs.FinMap.entries t)
-        (λ e b. prefix_shorter (val_codec.number ∷ world_prefix w rel) more e.0 b)
-        ∙ ap (filter (λ e. is_prefix (val_codec.number ∷ (world_prefix w rel ++ more)) e.0)) are_typed.rows
-        ∙ filter_map (raw val_codec) (λ e. is_prefix (val_codec.number ∷ (world_prefix w rel ++ more)) e.0) all
+        filter_narrow (λ e. is_prefix (val_codec.number ∷ (relation_prefix w rel ++ more)) e.0) (λ e. is_prefix (val_codec.number ∷ relation_prefix w rel) e.0) (Rattle.std.specs.FinMap.entries t)
+        (λ e b. is_prefix_shorter (val_codec.number ∷ relation_prefix w rel) more e.0 b)
+        ∙ ap (filter (λ e. is_prefix (val_codec.number ∷ (relation_prefix w rel ++ more)) e.0)) are_typed.rows
+        ∙ filter_map (raw val_codec) (λ e. is_prefix (val_codec.number ∷ (relation_prefix w rel ++ more)) e.0) all
 
-    narrow_shown : signed_under t (world_prefix w rel ++ more) ≡ map (signed_of t) (filter goes_on all)
+    narrow_shown : signed_under t (relation_prefix w rel ++ more) ≡ map (signed_of t) (filter goes_on all)
     narrow_shown = ap (map (signed_in t)) rows_narrow ∙ twice (filter goes_on all)
       where
         twice : (es : List (ValKey × Mark)) → map (signed_in t) (map (raw val_codec) es) ≡ map (signed_of t) es
@@ -257,12 +222,12 @@ module _ (t : Tables) (h : CanBeRun t) (w rel : ℕ) (nw : IsNum w) (nr : IsNum 
     few_of e k = subst (λ r. length vs ≤ (sight_of t).keys r) (sym k.of_rel) few
 
     tested : ArePlain vs → (e : ValKey × Mark) (k : IsHere e) → of_value e ≡ begins_so vs k.u
-    tested nv e k = both_ways (of_value e) (begins_so vs k.u)
+    tested nv e k = same_tests (of_value e) (begins_so vs k.u)
         (λ b. has_begun vs k.u (sym (first_at e k (length vs) (few_of e k)) ∙ key_part w rel ((sight_of t).keys rel) vs nw nr few (keys_sized t h rel) nv e.0 k.key b))
         (λ b.
         let front : take (length vs) e.0.2 ≡ vs = first_at e k (length vs) (few_of e k) ∙ begun vs k.u b in
         let rest = drop (length vs) e.0.2 in
-        let split : e.0.2 ≡ vs ++ rest = sym (take_and_drop (length vs) e.0.2) ∙ ap (λ (xs : List Value). xs ++ rest) front in
+        let split : e.0.2 ≡ vs ++ rest = sym (take-append-drop (length vs) e.0.2) ∙ ap (λ (xs : List Value). xs ++ rest) front in
         begins_with w rel ((sight_of t).keys rel) vs rest e.0 k.at_world k.at_rel split (ap length (sym split) ∙ many_at e k))
 
     value_shown : signed_under t (key_prefix ((sight_of t).keys rel) w rel vs) ≡ map (signed_of t) (filter of_value all)
@@ -328,7 +293,7 @@ module _ (t : Tables) (h : CanBeRun t) where
   own_number : (u0 u : Tuple) (number : Option ℕ) (tid : ℕ) → IsNumberOf t u0 number → IsNum tid → HasRow tuple_codec t tid u → leads_to number tid ≡ same_tuple u0 u
   own_number u0 u None tid none n r =
       sym (false_from_ne_true (same_tuple u0 u) (λ b. none tid n (subst (HasRow tuple_codec t tid) (sym ((same_tuple-Decides u0 u).0 b)) r)))
-  own_number u0 u (Some m) tid some n r = both_ways (nat_eq m tid) (same_tuple u0 u)
+  own_number u0 u (Some m) tid some n r = same_tests (nat_eq m tid) (same_tuple u0 u)
       (λ b. (same_tuple-Decides u0 u).1 (one (h.tuples.tuple tid) u0 u (tuple_named t h tid u0 n (subst (λ k. HasRow tuple_codec t k u0) (eqb-true m tid b) some.1)) (tuple_named t h tid u n r)))
       (λ b. eq-eqb m tid (two (h.tuples.number u0) m tid (h.held.named m u0 (tuple_named t h m u0 some.0 some.1))
       (ap h.tuples.number ((same_tuple-Decides u0 u).0 b) ∙ h.held.named tid u (tuple_named t h tid u n r))))
@@ -363,7 +328,7 @@ module _ (t : Tables) (h : CanBeRun t) (w rel : ℕ) (nw : IsNum w) (nr : IsNum 
   -- two tuples of one relation have one key exactly where the row's key is the tuple's
   keys_are : AreKeyVals (key_of (sight_of t).keys u0) → (e : ValKey × Mark) (k : IsHere t h w rel nw nr e) → same_key (sight_of t).keys u0 k.u ≡ of_key_of e
   keys_are nv e k =
-      both_ways (same_key (sight_of t).keys u0 k.u) (of_key_of e)
+      same_tests (same_key (sight_of t).keys u0 k.u) (of_key_of e)
       (λ b.
       let p = and_parts (nat_eq u0.rel k.u.rel) (same_values own_key (key_of (sight_of t).keys k.u)) b in
       group_begins w rel own_key e.0 k.at_world k.at_rel (sym k.vals ∙ sym ((same_values-Decides own_key (key_of (sight_of t).keys k.u)).0 p.1)))
@@ -410,8 +375,8 @@ module _ (t : Tables) (h : CanBeRun t) (w rel : ℕ) (nw : IsNum w) (nr : IsNum 
   read_narrow es under =
       let read = typed_under t (group_bytes w rel own_key) es under in
       let narrow = filter of_key_of (all t h w rel nw nr) in
-      raw_one t h (group_bytes w rel own_key) (world_prefix w rel) es narrow read.each
-      (all_filter (IsUnder val_codec (world_prefix w rel)) of_key_of (all t h w rel nw nr) (are_typed t h w rel nw nr).each)
+      raw_one t h (group_bytes w rel own_key) (relation_prefix w rel) es narrow read.each
+      (all_filter (IsUnder val_codec (relation_prefix w rel)) of_key_of (all t h w rel nw nr) (are_typed t h w rel nw nr).each)
       (sym read.rows ∙ rows_narrow t h w rel nw nr (vals_bytes own_key))
 
   pub denied_is : (number : Option ℕ) (es : List (ValKey × Mark)) → IsNumberOf t u0 number → AreKeyVals (key_of (sight_of t).keys u0) → AreUnder val_codec t (group_bytes w rel (key_of (sight_of t).keys u0)) es

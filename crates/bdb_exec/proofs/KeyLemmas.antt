@@ -5,17 +5,16 @@ use Rattle.std.specs.Option.{option_and_then, unwrap_or}
 use Rattle.std.specs.Ordering.{is_eq, ordering_reverse}
 use Rattle.std.specs.declared.cmp.Ordering.{Ordering}
 use Rattle.std.specs.declared.cmp.Ordering.TheVariants.{Less, Equal, Greater}
-use Rattle.std.proofs.lemmas.Bool.{and_parts, cond-true, cond-false, eqb-true, true≢false}
+use Rattle.std.proofs.lemmas.Bool.{and_parts, cond-true, cond-false, eqb-true, true≢false, not-true}
 use Rattle.std.proofs.lemmas.Bool.Decides.{nat_tests}
 use Rattle.std.proofs.lemmas.List.Sums.{sum_by-cons}
 use Rattle.bdb_base.specs.Conditions.{compare_so}
 use Rattle.bdb_base.specs.Queries.{option_list}
 use Rattle.bdb_base.specs.OrderLemmas.{value_exact}
 use Rattle.bdb_base.specs.Order.{value_cmp}
-use Rattle.bdb_base.specs.Safety.{is_column, is_equality, same_column, first_there}
+use Rattle.bdb_base.specs.Safety.{is_column, is_equality, same_column, first_there, column}
 use Rattle.bdb_base.specs.SameLemmas.{same_values-Decides}
-use Rattle.bdb_base.specs.declared.kinds.Cmp.{Cmp}
-use Rattle.bdb_base.specs.declared.kinds.Cmp.TheVariants.{Eq, Ne, Lt, Le, Gt, Ge}
+use Rattle.bdb_base.specs.declared.kinds.Cmp.TheVariants.{Eq}
 use Rattle.bdb_base.specs.declared.kinds.Cond.{Cond}
 use Rattle.bdb_base.specs.declared.kinds.Operand.{Operand}
 use Rattle.bdb_base.specs.declared.kinds.Operand.TheVariants.{Col, Lit}
@@ -23,55 +22,25 @@ use Rattle.bdb_base.specs.declared.kinds.Ref.{Ref}
 use Rattle.bdb_base.specs.declared.kinds.Sign.{Sign}
 use Rattle.bdb_base.specs.declared.kinds.Value.{Value}
 use Rattle.bdb_base.specs.declared.tuple.Tuple.{Tuple}
+use Rattle.bdb_base.proofs.ListLemmas.{length-filter_le, drop_there}
+use Rattle.bdb_base.proofs.OptionLemmas.{none_is_some}
+use Rattle.bdb_base.proofs.ConditionLemmas.{equality_is, equal_value}
 use Rattle.bdb_queries.specs.Slots.{slot_at, known, known_operand, must_hold}
-use Rattle.bdb_plan.specs.Running.{Reached, with_slot, with_choice, choices, settled, after, reached_if, rows_from, reads_from, own_reads}
+use Rattle.bdb_plan.specs.Running.{Reached, with_slot, with_choice, choices, decided, after, reached_if, rows_from, reads_from, own_reads}
 use Rattle.bdb_plan.specs.Sight.{Sight}
 use Rattle.bdb_plan.specs.declared.step.Step.{Step}
 use Rattle.bdb_plan.specs.declared.step.Step.TheVariants as step
-use Rattle.bdb_exec.specs.Keys.{tests_hold, passes, begins_so, column, names_another, asks_for_key, asks_on_left, asks_on_right, value_of_test, value_behind, values_behind, of_key, rows_of_key, key_asked, narrowed, choices_before, after_before}
-use Rattle.bdb_tables.specs.Beginnings.{led_by}
+use Rattle.bdb_exec.specs.Keys.{tests_hold, passes, begins_so, names_another, asks_for_key, asks_on_left, asks_on_right, value_of_test, value_behind, values_behind, of_key, rows_of_key, key_asked, narrowed, choices_before, after_before}
+use Rattle.bdb_tables.specs.Prefixes.{led_by}
+use Rattle.bdb_plan.proofs.StandLemmas.{slot_other, slot_set}
 use Rattle.bdb_exec.specs.LookUps.{looks_from, own_looks, deny_looks, pool_looks}
-use Rattle.bdb_exec.proofs.DenyLemmas.{equal_value, length_filter, filter_narrow}
+use Rattle.bdb_exec.proofs.DenyLemmas.{filter_narrow}
 
 -- ---- slots with one more tuple
 
-pub set_here : (slots : List (Option Tuple)) (item : ℕ) (t : Tuple) → item < length slots → slot_at (slice_set slots item (Some t)) item ≡ Some t
-set_here [] item t lt = absurd (omega arith)
-set_here (x ∷ slots) zero t lt = refl
-set_here (x ∷ slots) (suc item) t lt = set_here slots item t (omega arith)
-
-lower : (m n : ℕ) → nat_eq (suc m) (suc n) ≡ false → nat_eq m n ≡ false
-lower m n e = grind (arith, nat_tests)
-
-pub set_elsewhere : (slots : List (Option Tuple)) (item other : ℕ) (t : Tuple) → nat_eq other item ≡ false → slot_at (slice_set slots item (Some t)) other ≡ slot_at slots other
-set_elsewhere [] item other t e = refl
-set_elsewhere (x ∷ slots) zero zero t e = absurd (true≢false e)
-set_elsewhere (x ∷ slots) zero (suc other) t e = refl
-set_elsewhere (x ∷ slots) (suc item) zero t e = refl
-set_elsewhere (x ∷ slots) (suc item) (suc other) t e = set_elsewhere slots item other t (lower other item e)
-
 other_known : (slots : List (Option Tuple)) (item : ℕ) (t : Tuple) (o : Operand) → names_another item o ≡ true → known_operand (slice_set slots item (Some t)) o ≡ known_operand slots o
-other_known slots item t (Col r) e = ap (option_and_then (λ u. slice_get u.vals r.col)) (set_elsewhere slots item r.item t (turned (nat_eq r.item item) e))
-  where
-    turned : (b : Bool) → not b ≡ true → b ≡ false
-    turned true e = absurd (true≢false (sym e))
-    turned false e = refl
+other_known slots item t (Col r) e = ap (option_and_then (λ u. slice_get u.vals r.col)) (slot_other slots item r.item t (not-true (nat_eq r.item item) e))
 other_known slots item t (Lit v) e = refl
-
-none_not : {X : Type 0} (x : X) → None ≡ Some x → ⊥
-none_not x e = cc
-
-turned_off : (b : Bool) → not b ≡ true → b ≡ false
-turned_off true e = absurd (true≢false (sym e))
-turned_off false e = refl
-
-equality : (cmp : Cmp) → is_equality cmp ≡ true → cmp ≡ Eq
-equality Eq e = refl
-equality Ne e = absurd (true≢false (sym e))
-equality Lt e = absurd (true≢false (sym e))
-equality Le e = absurd (true≢false (sym e))
-equality Gt e = absurd (true≢false (sym e))
-equality Ge e = absurd (true≢false (sym e))
 
 -- an equality says the same either way round
 other_way : (v : Value) (o : Option Value) → compare_so Eq (Some v) o ≡ compare_so Eq o (Some v)
@@ -82,15 +51,6 @@ other_way v (Some x) = ap is_eq (value_exact.total.antisymm v x) ∙ reversed (v
     reversed Less = refl
     reversed Equal = refl
     reversed Greater = refl
-
--- values from one on that is there
-drop_there : (vs : List Value) (i : ℕ) (v : Value) → slice_get vs i ≡ Some v → drop i vs ≡ v ∷ drop (suc i) vs
-drop_there [] i v e = absurd (none_not v e)
-drop_there (x ∷ vs) zero v e = ap (λ (y : Value). y ∷ vs) (same e)
-  where
-    same : {a b : Value} → Some a ≡ Some b → a ≡ b
-    same e = cc
-drop_there (x ∷ vs) (suc i) v e = drop_there vs i v e
 
 module _ (slots : List (Option Tuple)) (item : ℕ) (t : Tuple) (lt : item < length slots) where
   set : List (Option Tuple)
@@ -103,7 +63,7 @@ module _ (slots : List (Option Tuple)) (item : ℕ) (t : Tuple) (lt : item < len
     column_known r e =
         let p = and_parts (nat_eq item r.item) (nat_eq col r.col) e in
         ap (λ i. option_and_then (λ u. slice_get u.vals r.col) (slot_at set i)) (sym (eqb-true item r.item p.0))
-        ∙ ap (option_and_then (λ u. slice_get u.vals r.col)) (set_here slots item t lt)
+        ∙ ap (option_and_then (λ u. slice_get u.vals r.col)) (slot_set slots item t lt)
         ∙ ap (slice_get t.vals) (sym (eqb-true col r.col p.1))
 
     -- a test that asks for a value holds exactly where the tuple has it
@@ -112,7 +72,7 @@ module _ (slots : List (Option Tuple)) (item : ℕ) (t : Tuple) (lt : item < len
     left_holds c v asks k =
         let p = and_parts (is_equality c.cmp) (same_column (column item col) c.left && names_another item c.right) asks in
         let q = and_parts (same_column (column item col) c.left) (names_another item c.right) p.1 in
-        ap (λ cmp. compare_so cmp (known set c.left) (known_operand set c.right)) (equality c.cmp p.0)
+        ap (λ cmp. compare_so cmp (known set c.left) (known_operand set c.right)) (equality_is c.cmp p.0)
         ∙ ap (λ o. compare_so Eq (known set c.left) o) (other_known slots item t c.right q.1 ∙ k)
         ∙ ap (λ o. compare_so Eq o (Some v)) (column_known c.left q.0)
 
@@ -125,8 +85,8 @@ module _ (slots : List (Option Tuple)) (item : ℕ) (t : Tuple) (lt : item < len
     right_holds c v asks k =
         let p = and_parts (is_equality c.cmp) (is_column (column item col) c.right && not (nat_eq c.left.item item)) asks in
         let q = and_parts (is_column (column item col) c.right) (not (nat_eq c.left.item item)) p.1 in
-        ap (λ cmp. compare_so cmp (known set c.left) (known_operand set c.right)) (equality c.cmp p.0)
-        ∙ ap (λ o. compare_so Eq o (known_operand set c.right)) (ap (option_and_then (λ u. slice_get u.vals c.left.col)) (set_elsewhere slots item c.left.item t (turned_off (nat_eq c.left.item item) q.1)) ∙ k)
+        ap (λ cmp. compare_so cmp (known set c.left) (known_operand set c.right)) (equality_is c.cmp p.0)
+        ∙ ap (λ o. compare_so Eq o (known_operand set c.right)) (ap (option_and_then (λ u. slice_get u.vals c.left.col)) (slot_other slots item c.left.item t (not-true (nat_eq c.left.item item) q.1)) ∙ k)
         ∙ ap (compare_so Eq (Some v)) (right_known c.right q.0)
         ∙ other_way v (slice_get t.vals col)
 
@@ -139,11 +99,11 @@ module _ (slots : List (Option Tuple)) (item : ℕ) (t : Tuple) (lt : item < len
         by : (a : Bool) → asks_on_left item col c ≡ a → (b : Bool) → asks_on_right item col c ≡ b → must_hold set c ≡ compare_so Eq (slice_get t.vals col) (Some v)
         by true p b q = left_holds c v p (sym (cond-true (asks_on_left item col c) (known_operand slots c.right) (cond (asks_on_right item col c) (known slots c.left) None) p) ∙ e)
         by false p true q = right_holds c v q (sym (cond-true (asks_on_right item col c) (known slots c.left) None q) ∙ on_right p)
-        by false p false q = absurd (none_not v (sym (cond-false (asks_on_right item col c) (known slots c.left) None q) ∙ on_right p))
+        by false p false q = absurd (none_is_some v (sym (cond-false (asks_on_right item col c) (known slots c.left) None q) ∙ on_right p))
 
     -- a tuple that the tests let through has the value that they ask for
     value_there : (xs : List Step) (v : Value) → value_behind slots item xs col ≡ Some v → tests_hold set xs ≡ true → slice_get t.vals col ≡ Some v
-    value_there [] v k h = absurd (none_not v k)
+    value_there [] v k h = absurd (none_is_some v k)
     value_there (step.Test c ∷ xs) v k h = by (value_of_test slots item col c) refl (λ e r. value_there xs v e r)
       where
         both : (must_hold set c ≡ true) × (tests_hold set xs ≡ true)
@@ -154,13 +114,13 @@ module _ (slots : List (Option Tuple)) (item : ℕ) (t : Tuple) (lt : item < len
         by (Some w) e rest =
             let same : Some w ≡ Some v = sym (ap (λ o. first_there o (value_behind slots item xs col)) e) ∙ k in
             equal_value (slice_get t.vals col) w (sym (test_holds c w e) ∙ both.0) ∙ same
-    value_there (step.User a ∷ xs) v k h = absurd (none_not v k)
-    value_there (step.Start a ∷ xs) v k h = absurd (none_not v k)
-    value_there (step.Edge a b ∷ xs) v k h = absurd (none_not v k)
-    value_there (step.Differ a b d ∷ xs) v k h = absurd (none_not v k)
-    value_there (step.Pos a b ∷ xs) v k h = absurd (none_not v k)
-    value_there (step.Bind a b d ∷ xs) v k h = absurd (none_not v k)
-    value_there (step.Neg a b ∷ xs) v k h = absurd (none_not v k)
+    value_there (step.User a ∷ xs) v k h = absurd (none_is_some v k)
+    value_there (step.Start a ∷ xs) v k h = absurd (none_is_some v k)
+    value_there (step.Edge a b ∷ xs) v k h = absurd (none_is_some v k)
+    value_there (step.Differ a b d ∷ xs) v k h = absurd (none_is_some v k)
+    value_there (step.Pos a b ∷ xs) v k h = absurd (none_is_some v k)
+    value_there (step.Bind a b d ∷ xs) v k h = absurd (none_is_some v k)
+    value_there (step.Neg a b ∷ xs) v k h = absurd (none_is_some v k)
 
   -- from each column on it has the values that they ask for
   values_there : (xs : List Step) → tests_hold set xs ≡ true → (most col : ℕ) → take (length (values_behind slots item xs most col)) (drop col t.vals) ≡ values_behind slots item xs most col
@@ -285,7 +245,7 @@ pub choice_before : (sight : Sight) (taken : List Ref) (s : Reached) (x : Step) 
     → flat_map (rows_from sight taken xs) (after sight s x) ≡ flat_map (λ t. rows_from sight taken xs (with_slot s item t)) pool
 choice_before sight taken s x xs item pool e = by (choices sight s x) e
   where
-    by : (o : Choices) → some_choices item pool ≡ narrowed s xs o → flat_map (rows_from sight taken xs) (with_choice s o (settled sight s x)) ≡ flat_map (λ t. rows_from sight taken xs (with_slot s item t)) pool
+    by : (o : Choices) → some_choices item pool ≡ narrowed s xs o → flat_map (rows_from sight taken xs) (with_choice s o (decided sight s x)) ≡ flat_map (λ t. rows_from sight taken xs (with_slot s item t)) pool
     by None e = absurd (none_chosen (sym e))
     by (Some c) e =
         let h = choice_same e in
@@ -305,7 +265,7 @@ chosen_looks sight xs s item (t ∷ pool) =
 
 pub looks_before : (sight : Sight) (s : Reached) (x : Step) (xs : List Step) (item : ℕ) (pool : List Tuple) → some_choices item pool ≡ choices_before sight s x xs
     → sum_by (looks_from sight xs) (after_before sight s x xs) ≡ sum_by (λ t. looks_from sight xs (with_slot s item t)) pool
-looks_before sight s x xs item pool e = sym (ap (λ o. sum_by (looks_from sight xs) (with_choice s o (settled sight s x))) e) ∙ chosen_looks sight xs s item pool
+looks_before sight s x xs item pool e = sym (ap (λ o. sum_by (looks_from sight xs) (with_choice s o (decided sight s x))) e) ∙ chosen_looks sight xs s item pool
 
 module _ (F G : Reached → ℕ) (h : (z : Reached) → F z ≤ G z) where
   sum_fewer : (zs : List Reached) → sum_by F zs ≤ sum_by G zs
@@ -337,13 +297,13 @@ module _ (F G : Reached → ℕ) (h : (z : Reached) → F z ≤ G z) where
   after_fewer : (sight : Sight) (s : Reached) (x : Step) (xs : List Step) → sum_by F (after_before sight s x xs) ≤ sum_by G (after sight s x)
   after_fewer sight s x xs = by (choices sight s x)
     where
-      by : (o : Choices) → sum_by F (with_choice s (narrowed s xs o) (settled sight s x)) ≤ sum_by G (with_choice s o (settled sight s x))
-      by None = sum_fewer (option_list (settled sight s x))
+      by : (o : Choices) → sum_by F (with_choice s (narrowed s xs o) (decided sight s x)) ≤ sum_by G (with_choice s o (decided sight s x))
+      by None = sum_fewer (option_list (decided sight s x))
       by (Some c) = chosen_fewer (with_slot s c.0) (passes s.slots c.0 xs) c.1
 
 -- the rows of a key are not more than all
 key_fewer : (vs : List Value) (rows : List (Tuple × Sign)) → length (rows_of_key vs rows) ≤ length rows
-key_fewer vs rows = length_filter (λ x. begins_so vs x.0) rows
+key_fewer vs rows = length-filter_le (λ x. begins_so vs x.0) rows
 
 own_fewer : (sight : Sight) (s : Reached) (x : Step) (xs : List Step) → own_looks sight s x xs ≤ own_reads sight s x
 own_fewer sight s (step.User a) xs = omega arith

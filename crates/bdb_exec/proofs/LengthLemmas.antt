@@ -1,20 +1,21 @@
 -- How long the keys are that tables show, and what a tuple's key has of its values.
-use Rattle.std.proofs.Common.{◌≡◌, ◌∙◌, ℕ, zero, suc, ◌≤◌, ◌<◌, ◌^◌, lit<, Bool, true, false, cond, nat_lt, List, [], ◌∷◌, ◌++◌, Option, Some, None, length, take, drop, refl, ap, sym, subst, arith}
+use Rattle.std.proofs.Common.{◌≡◌, ◌∙◌, ℕ, ◌≤◌, ◌<◌, ◌^◌, lit<, Bool, true, false, cond, nat_lt, List, [], ◌∷◌, Option, Some, None, length, take, refl, ap, sym, subst, arith}
 use Rattle.std.specs.FinMap as tables
 use Rattle.std.specs.List.{list_all}
 use Rattle.std.proofs.lemmas.Bool.{cond-true}
 use Rattle.std.proofs.lemmas.Bool.Decides.{nat_tests}
-use Rattle.bdb_base.specs.Bases.{key_at}
+use Rattle.bdb_base.specs.Bases.{key_at, is_written}
 use Rattle.bdb_base.specs.Clash.{key_of}
 use Rattle.bdb_base.specs.declared.kinds.RelDef.{RelDef}
 use Rattle.bdb_base.specs.declared.kinds.Value.{Value}
 use Rattle.bdb_base.specs.declared.tuple.Tuple.{Tuple}
+use Rattle.bdb_base.proofs.ListLemmas.{take_short}
 use Rattle.bdb_keep.specs.Tables.{Tables}
 use Rattle.bdb_key.specs.Grammar.{IsNum, ArePlain, AreKeyVals}
+use Rattle.bdb_key.proofs.Compared.{take_plain}
 use Rattle.bdb_tables.specs.Codec.{HasAt, TableFits, place}
 use Rattle.bdb_tables.specs.InUse.{HaveKeyTexts, rel_codec}
 use Rattle.bdb_tables.specs.Lengths.{HasKeyAt}
-use Rattle.bdb_tables.specs.Beginnings.{is_written}
 use Rattle.bdb_tables.proofs.Held.{rel_fits}
 use Rattle.bdb_exec.specs.Readable.{CanBeRun}
 use Rattle.bdb_exec.specs.Seen.{length_in, sight_of}
@@ -67,37 +68,9 @@ keys_sized t h rel = (keys_are t (rel_fits t h.grammar) rel).1
 
 -- ---- first values
 
-pub take_short : (n : ℕ) (vs : List Value) → length (take n vs) ≤ n
-take_short zero vs = omega arith
-take_short (suc n) [] = omega arith
-take_short (suc n) (v ∷ vs) = let h = take_short n vs in omega (arith, h)
-
-pub take_long : (n : ℕ) (vs : List Value) → n ≤ length vs → length (take n vs) ≡ n
-take_long zero vs le = refl
-take_long (suc n) [] le = absurd (omega arith)
-take_long (suc n) (v ∷ vs) le = ap suc (take_long n vs (omega arith))
-
-pub take_plain : (n : ℕ) (vs : List Value) → ArePlain vs → ArePlain (take n vs)
-take_plain zero vs a = tt
-take_plain (suc n) [] a = tt
-take_plain (suc n) (v ∷ vs) a = (a.0, take_plain n vs a.1)
-
--- the first of some first values are the first of all
-pub take_take : (m n : ℕ) (vs : List Value) → m ≤ n → take m (take n vs) ≡ take m vs
-take_take zero n vs le = refl
-take_take (suc m) zero vs le = absurd (omega arith)
-take_take (suc m) (suc n) [] le = refl
-take_take (suc m) (suc n) (v ∷ vs) le = ap (λ (xs : List Value). v ∷ xs) (take_take m n vs (omega arith))
-
 pub take_whole : (vs : List Value) → take (length vs) vs ≡ vs
 take_whole [] = refl
 take_whole (v ∷ vs) = ap (λ (xs : List Value). v ∷ xs) (take_whole vs)
-
--- some first values, and the others
-pub take_and_drop : (n : ℕ) (vs : List Value) → take n vs ++ drop n vs ≡ vs
-take_and_drop zero vs = refl
-take_and_drop (suc n) [] = refl
-take_and_drop (suc n) (v ∷ vs) = ap (λ (xs : List Value). v ∷ xs) (take_and_drop n vs)
 
 -- ---- keys of tuples
 

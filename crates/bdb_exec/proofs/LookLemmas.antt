@@ -2,7 +2,7 @@
 use Rattle.std.proofs.Common.{◌∙◌, Ok, Err}
 use Rattle.bdb_keep.specs.Calls.{IsRead}
 use Rattle.bdb_keep.specs.Seen.{Seen}
-use Rattle.bdb_tables.proofs.Loops.{IsReading, goes_then, counts_then, steps_err, steps_ok}
+use Rattle.bdb_tables.proofs.Loops.{IsReading, counts_then, steps_err, steps_ok}
 use Rattle.bdb_tables.specs.Reading.{OnlyReads}
 
 pub looks_of_read : {T U E : Type 0} (old new : Seen) (x : T) (y : U) (fault : E) → IsRead {T = T} {E = E} old new (Ok x) fault → OnlyReads {T = U} {E = E} old new (Ok y) fault
@@ -19,13 +19,4 @@ module _ {P : Type 0} where
     writes = r.writes ∙ h.writes;
     counts = counts_then old a b h.counts r.counts;
     steps = steps_err old a b e fault h.goes r.steps;
-  }
-
-  pub looking_more : {T E Q : Type 0} (old a b : Seen) (x : T) (fault : E) → IsReading old a P → OnlyReads {T = T} {E = E} a b (Ok x) fault → Q → IsReading old b Q
-  looking_more old a b x fault h r q = record {
-    goes = goes_then old a b h.goes r.steps.ok;
-    kept = r.kept ∙ h.kept;
-    writes = r.writes ∙ h.writes;
-    counts = counts_then old a b h.counts r.counts;
-    read = q;
   }

@@ -3,7 +3,7 @@ use Rattle.std.proofs.Common.{◌≡◌, ◌∙◌, ℕ, ◌<◌, true, false, L
 use Rattle.std.specs.List.{list_all, AllByRecursion}
 use Rattle.std.specs.Option.{option_map}
 use Rattle.std.specs.FinMap as tables
-use Rattle.std.proofs.lemmas.Bool.{and_parts, and_from, false≢true}
+use Rattle.std.proofs.lemmas.Bool.{and_parts, false≢true}
 use Rattle.std.proofs.lemmas.List.{append-nil, length-map}
 use Rattle.std.proofs.lemmas.List.Elements.{filter_map-append}
 use Rattle.bdb_base.specs.declared.kinds.UserSlot.{UserSlot}
@@ -11,18 +11,18 @@ use Rattle.bdb_base.specs.declared.kinds.UserSlot.TheVariants.{Live, Gone}
 use Rattle.bdb_base.specs.declared.kinds.Value.{Value}
 use Rattle.bdb_base.specs.declared.kinds.Value.TheVariants.{Int, Text}
 use Rattle.bdb_base.specs.declared.tuple.Tuple.{Tuple}
+use Rattle.bdb_base.proofs.OptionLemmas.{none_is_some, same_some}
 use Rattle.bdb_keep.specs.Tables.{Tables}
 use Rattle.bdb_key.specs.Bytes.{num_bytes, text_bytes}
 use Rattle.bdb_key.specs.Grammar.{IsNum, ArePlain, IsWhole, HasPlainText}
 use Rattle.bdb_key.specs.Rows.{IsTupleRow}
 use Rattle.bdb_queries.specs.Slots.{user_tuple}
-use Rattle.bdb_tables.specs.Codec.{HasAt, HasRow, TableFits}
-use Rattle.bdb_tables.specs.Grammar.{InGrammar}
+use Rattle.bdb_tables.specs.Codec.{HasAt, HasRow}
 use Rattle.bdb_tables.specs.InUse.{user_codec, tuple_codec, tuple_ix_codec, edge_codec}
 use Rattle.bdb_tables.specs.InUseLaws.{number_rows_are_one}
 use Rattle.bdb_tables.specs.Spans.{AreUnder, IsUnder}
-use Rattle.bdb_tables.specs.Beginnings.{is_written}
-use Rattle.bdb_tables.proofs.Held.{some_same, none_some}
+use Rattle.bdb_tables.proofs.PrefixLemmas.{all_written}
+use Rattle.bdb_base.specs.Bases.{is_written}
 use Rattle.bdb_exec.specs.Readable.{CanBeRun}
 use Rattle.bdb_exec.specs.Rows.{IsNumberOf, tuple_of_slot}
 use Rattle.bdb_exec.specs.Seen.{user_in, sight_of}
@@ -61,21 +61,12 @@ no_user_more users es e h gone =
     h ∙ sym (append-nil (filter_map tuple_of_slot es)) ∙ ap (λ slot. filter_map tuple_of_slot es ++ filter_map tuple_of_slot ((e.0, slot) ∷ [])) (sym gone)
     ∙ sym (filter_map-append tuple_of_slot es (e ∷ []))
 
--- tables in the grammar fit the table of edges
-pub edge_fits : (t : Tables) → InGrammar t → TableFits edge_codec t
-edge_fits t h k r found = h 9 k r found
-
 pub edge_is : (t : Tables) (w i : ℕ) (o : Option ℕ) → HasAt edge_codec t (w, i) o → o ≡ (sight_of t).edge w i
 unfolding sight_of
 edge_is t w i None h = sym (ap (option_map number_in) h)
 edge_is t w i (Some n) h = sym (ap (option_map number_in) h.found ∙ ap Some (number_back n h.in_grammar))
 
 -- ---- numbers of tuples
-
-pub all_written : (vs : List Value) → ArePlain vs → list_all is_written vs ≡ true
-all_written [] a = refl
-all_written (Int m ∷ vs) a = all_written vs a.1
-all_written (Text s ∷ vs) a = and_from (is_written (Text s)) (list_all is_written vs) a.0 (all_written vs a.1)
 
 pub written_texts : (vs : List Value) → list_all is_written vs ≡ true → AllByRecursion HasPlainText vs
 written_texts [] a = tt
@@ -99,11 +90,11 @@ no_number t u e tid n r = false≢true (sym e ∙ all_written u.vals r.in_gramma
 
 pub number_is : (t : Tables) → CanBeRun t → (u : Tuple) (o : Option ℕ) → IsTupleRow u → HasAt tuple_ix_codec t u o → IsNumberOf t u o
 number_is t h u None row none = λ tid n r.
-    none_some (num_bytes tid) (sym none ∙ h.held.numbers.rows u row ∙ ap (option_map num_bytes) (h.held.named tid u (tuple_named t h tid u n r)))
+    none_is_some (num_bytes tid) (sym none ∙ h.held.numbers.rows u row ∙ ap (option_map num_bytes) (h.held.named tid u (tuple_named t h tid u n r)))
 number_is t h u (Some m) row some = (some.in_grammar, by (h.tuples.number u) refl (h.held.numbers.written u row) (sym (h.held.numbers.rows u row) ∙ some.found))
   where
     by : (o : Option ℕ) → h.tuples.number u ≡ o → MatchOption o (Unit {0}) IsNum → option_map num_bytes o ≡ Some (num_bytes m) → HasRow tuple_codec t m u
-    by None e w f = absurd (none_some (num_bytes m) f)
+    by None e w f = absurd (none_is_some (num_bytes m) f)
     by (Some k) e w f =
-        let same : k ≡ m = number_rows_are_one k m w some.in_grammar (some_same (num_bytes k) (num_bytes m) f) in
+        let same : k ≡ m = number_rows_are_one k m w some.in_grammar (same_some (num_bytes k) (num_bytes m) f) in
         Rattle.bdb_exec.proofs.WorldLemmas.has_row t h m u (h.held.numbered u m (e ∙ ap Some same))

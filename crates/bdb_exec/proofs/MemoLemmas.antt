@@ -6,12 +6,12 @@ use Rattle.std.specs.declared.cmp.Ordering.TheVariants.{Less, Equal, Greater}
 use Rattle.std.specs.Ordering.{eq_by_cmp, is_eq, nat_cmp, ordering_then}
 use Rattle.std.specs.BTreeMap.{BTreeMap, get, Updates}
 use Rattle.std.proofs.lemmas.Bool.{false≢true}
-use Rattle.std.proofs.lemmas.Cmp.{ranked}
 use Rattle.std.proofs.lemmas.Option.{cond_some, none-some}
 use Rattle.bdb_base.specs.declared.tuple.Tuple.{Tuple}
+use Rattle.bdb_base.proofs.Numbers.{same_number}
 use Rattle.bdb_keep.specs.Tables.{Tables, bytes_cmp}
+use Rattle.bdb_keep.proofs.RowsLemmas.{same_place}
 use Rattle.bdb_plan.specs.Running.{plus_tuples}
-use Rattle.bdb_tables.proofs.Held.{same_place}
 use Rattle.bdb_exec.specs.Memos.{pair_cmp, last_pool}
 use Rattle.bdb_exec.specs.Seen.{signed_under}
 use Rattle.bdb_exec.specs.declared.memo.KeyPool.{KeyPool}
@@ -25,14 +25,6 @@ after_insert cmp m n k x P same here u h q = subst (λ o. IfSome o (P q)) (sym (
     by true e h = subst (λ j. P j x) (same q e) here
     by false e h = h
 
-pub nat_tied : (a b : ℕ) → is_eq (nat_cmp a b) ≡ true → a ≡ b
-nat_tied a b e = by (nat_cmp a b) refl e
-  where
-    by : (o : Ordering) → nat_cmp a b ≡ o → is_eq o ≡ true → a ≡ b
-    by Less k i = absurd (false≢true i)
-    by Equal k i = ranked a b Equal (sym k)
-    by Greater k i = absurd (false≢true i)
-
 pub pair_tied : (a b : ℕ × ℕ) → is_eq (pair_cmp a b) ≡ true → a ≡ b
 pair_tied a b e = by (nat_cmp a.0 b.0) refl e
   where
@@ -41,7 +33,7 @@ pair_tied a b e = by (nat_cmp a.0 b.0) refl e
 
     by : (o : Ordering) → nat_cmp a.0 b.0 ≡ o → is_eq (ordering_then o (nat_cmp a.1 b.1)) ≡ true → a ≡ b
     by Less k i = absurd (false≢true i)
-    by Equal k i = ap (λ m. pair m a.1) (nat_tied a.0 b.0 (ap is_eq k)) ∙ ap (λ n. pair b.0 n) (nat_tied a.1 b.1 i)
+    by Equal k i = ap (λ m. pair m a.1) (same_number a.0 b.0 (ap is_eq k)) ∙ ap (λ n. pair b.0 n) (same_number a.1 b.1 i)
     by Greater k i = absurd (false≢true i)
 
 -- the tuples that are kept beside bytes are those of the rows whose keys begin so

@@ -4,7 +4,7 @@ use Rattle.bdb_base.specs.declared.kinds.Value.{Value}
 use Rattle.bdb_base.specs.declared.tuple.Tuple.{Tuple}
 use Rattle.bdb_plan.specs.declared.step.Step.{Step}
 use Rattle.bdb_exec.specs.Keys.{value_behind, values_behind}
-use Rattle.bdb_tables.specs.Beginnings.{led_by}
+use Rattle.bdb_tables.specs.Prefixes.{led_by}
 
 module _ (slots : List (Option Tuple)) (item : ℕ) (behind : List Step) where
   -- no more values are asked for than there are columns

@@ -17,7 +17,7 @@ use Rattle.bdb_plan.specs.Running.{Reached, with_slot, rows_from}
 use Rattle.bdb_plan.specs.Sight.{Sight}
 use Rattle.bdb_plan.specs.declared.step.Step.{Step}
 use Rattle.bdb_exec.specs.Keys.{choices_before, after_before}
-use Rattle.bdb_exec.specs.LookUps.{looks_from, choice_looks, settled_looks}
+use Rattle.bdb_exec.specs.LookUps.{looks_from, choice_looks, decided_looks}
 use Rattle.bdb_exec.proofs.KeyLemmas.{some_choices, choice_before, looks_before}
 
 -- the rows of all steps are those of the choices at one of them
@@ -36,7 +36,7 @@ pub looks_of_choice : (sight : Sight) (steps : List Step) (start s : Reached) (i
     → new + sum_by (λ t. looks_from sight (drop (i + 1) steps) (with_slot s item t)) pool ≤ old + looks_from sight steps start
 looks_of_choice sight steps start s i item x pool old now new lt at chosen inv own =
     let rest = drop (i + 1) steps in
-    let all : looks_from sight (drop i steps) s ≡ choice_looks sight s x rest + settled_looks sight s x + sum_by (looks_from sight rest) (after_before sight s x rest) =
+    let all : looks_from sight (drop i steps) s ≡ choice_looks sight s x rest + decided_looks sight s x + sum_by (looks_from sight rest) (after_before sight s x rest) =
     ap (λ ys. looks_from sight ys s) (drop_more steps i x lt) ∙ ap (λ y. looks_from sight (y ∷ rest) s) (sym at) in
     let same = looks_before sight s x rest item pool chosen in
     omega (arith, all, same, inv, own)

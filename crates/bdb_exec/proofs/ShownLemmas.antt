@@ -1,41 +1,41 @@
 -- Tables that have a base show it.
-use Rattle.std.proofs.Common.{◌≡◌, ◌∙◌, ℕ, zero, suc, ◌+◌, ◌≤◌, ◌<◌, ◌^◌, lit<, Bool, true, false, not, ◌&&◌, ◌||◌, cond, nat_eq, nat_lt, nat_le, List, [], ◌∷◌, ◌++◌, Option, Some, None, MatchOption, is_some, length, map, filter_map, refl, ap, sym, subst, inl, inr, arith}
+use Rattle.std.proofs.Common.{◌≡◌, ◌∙◌, ℕ, zero, suc, ◌+◌, ◌≤◌, ◌<◌, ◌^◌, lit<, Bool, true, false, not, ◌&&◌, cond, nat_eq, nat_lt, nat_le, List, [], ◌∷◌, ◌++◌, Option, Some, None, MatchOption, is_some, length, map, filter_map, refl, ap, sym, subst, inl, inr, arith}
 use Rattle.std.specs.List.{list_any, list_all, AllByRecursion, slice_get}
 use Rattle.std.specs.Option.{option_map, unwrap_or, option_and_then}
 use Rattle.std.specs.Ordering.{is_lt, is_eq, eq_by_cmp, nat_cmp}
 use Rattle.std.specs.FinMap as tables
 use Rattle.std.specs.FinMap.{find}
-use Rattle.std.proofs.lemmas.Bool.{and_parts, and_from, or_right, or_cases, cond-true, cond-false, false≢true, false_from_ne_true, eqb-true, eq-eqb}
+use Rattle.std.proofs.lemmas.Bool.{and_parts, and_from, or_right, or_cases, cond-true, cond-false, false≢true, false_from_ne_true, eqb-true, eq-eqb, or_left}
 use Rattle.std.proofs.lemmas.Bool.Decides.{nat_tests}
 use Rattle.std.proofs.Math.Path.{fun_ext}
-use Rattle.bdb_base.specs.Alternation.{alternates}
-use Rattle.bdb_base.specs.Bases.{Contents, IsValid, belongs, fits_columns, fits_definition, fits_kind, fits_relation, is_plain, is_user, key_at, key_lengths, user_names}
+use Rattle.bdb_base.specs.Bases.{Contents, IsValid, fits_definition, is_plain, is_user, key_at, key_lengths, user_names}
 use Rattle.bdb_base.specs.Clash.{key_of}
-use Rattle.bdb_base.specs.Limits.{deepest_statement, most_users}
+use Rattle.bdb_base.specs.Limits.{most_users}
 use Rattle.bdb_base.specs.Queries.{columns_at}
-use Rattle.bdb_base.specs.Same.{same_tuple, same_sign, same_values, same_path}
+use Rattle.bdb_base.specs.Same.{same_tuple, same_sign, same_values}
 use Rattle.bdb_base.specs.SameLemmas.{same_tuple-Decides, same_sign-Decides, same_values-Decides}
 use Rattle.bdb_base.specs.Segments.{is_prefix, is_suffix}
 use Rattle.bdb_base.specs.SortedSet.{ascending}
 use Rattle.bdb_base.specs.States.{is_state, edge_target}
-use Rattle.bdb_base.specs.Worlds.{stated, explicit, contradicted}
-use Rattle.bdb_base.specs.declared.kinds.Catalog.{Catalog}
-use Rattle.bdb_base.specs.declared.kinds.ColDef.{ColDef}
+use Rattle.bdb_base.specs.Worlds.{stated, explicit}
 use Rattle.bdb_base.specs.declared.kinds.RelDef.{RelDef}
 use Rattle.bdb_base.specs.declared.kinds.Sign.{Sign}
 use Rattle.bdb_base.specs.declared.kinds.Sign.TheVariants.{Plus, Minus}
-use Rattle.bdb_base.specs.declared.kinds.Stmt.{Stmt}
 use Rattle.bdb_base.specs.declared.kinds.UserSlot.{UserSlot}
 use Rattle.bdb_base.specs.declared.kinds.UserSlot.TheVariants.{Live, Gone}
 use Rattle.bdb_base.specs.declared.kinds.Value.{Value}
 use Rattle.bdb_base.specs.declared.tuple.Tuple.{Tuple}
-use Rattle.bdb_base.proofs.WorldLemmas.{worlds_are_consistent, valid_is_consistent, list_any_weaker}
+use Rattle.bdb_base.proofs.WorldLemmas.{worlds_are_consistent, valid_is_consistent, stated_tuples_are_explicit}
+use Rattle.bdb_base.proofs.BoolLemmas.{same_tests}
+use Rattle.bdb_base.proofs.OptionLemmas.{none_is_some, same_some}
+use Rattle.bdb_base.proofs.BaseLemmas.{as_many_values, stated_fits}
 use Rattle.bdb_paths.proofs.SuffixLemmas.{deepest_same, deepest_is_member}
 use Rattle.bdb_keep.specs.Tables.{Tables, bytes_cmp}
 use Rattle.bdb_key.specs.Bytes.{num_bytes, vals_bytes}
 use Rattle.bdb_key.specs.Grammar.{IsNum}
 use Rattle.bdb_key.specs.Rows.{IsRelRow, IsTupleRow, IsUserRow, mark_bytes, rel_bytes, slot_bytes}
 use Rattle.bdb_queries.specs.Slots.{user_tuple, user_tuples}
+use Rattle.bdb_keep.proofs.RowsLemmas.{same_place}
 use Rattle.bdb_plan.specs.Sight.{has_signed}
 use Rattle.bdb_tables.specs.Codec.{place}
 use Rattle.bdb_tables.specs.InUse.{ValKey, IsValKey, user_codec, rel_codec, edge_codec, val_codec}
@@ -44,11 +44,11 @@ use Rattle.bdb_tables.specs.Marks.{Mark, mark_of, sign_in, sign_by, marked}
 use Rattle.bdb_tables.specs.Names.{Names, path_of, number_of, is_named, edge_from, edge_of}
 use Rattle.bdb_tables.specs.Rows.{Tuples, HoldsRows, has_key, row_named, row_for}
 use Rattle.bdb_tables.specs.Spans.{AreUnder, IsUnder, entry_bytes, entry_cmp}
-use Rattle.bdb_tables.proofs.Held.{same_place, some_same, none_some}
 use Rattle.bdb_tables.proofs.ListLemmas.{prefix_append}
+use Rattle.bdb_tables.proofs.SignLemmas.{sign_holds}
 use Rattle.bdb_exec.specs.Based.{HaveBase, ShowBase, TablesShowBase, world_number}
 use Rattle.bdb_exec.specs.Readable.{CanBeRun}
-use Rattle.bdb_exec.specs.Rows.{signed_of, tuple_of_slot, world_prefix}
+use Rattle.bdb_exec.specs.Rows.{signed_of, tuple_of_slot, relation_prefix}
 use Rattle.bdb_exec.specs.Seen.{length_in, rows_at, signed_under, sight_of, width_in}
 use Rattle.bdb_exec.specs.Spelled.{number_in}
 use Rattle.bdb_exec.proofs.LengthLemmas.{key_vals, keys_sized}
@@ -56,7 +56,7 @@ use Rattle.bdb_exec.proofs.RelLemmas.{length_of, width_of}
 use Rattle.bdb_exec.proofs.SpelledLemmas.{number_back}
 use Rattle.bdb_exec.proofs.TypedLemmas.{raw, at_find}
 use Rattle.bdb_exec.proofs.WorldLemmas.{IsThere, signed_is, has_row}
-use Rattle.bdb_exec.proofs.DenyLemmas.{both_ways, all, are_typed, IsHere, all_here, shown_all}
+use Rattle.bdb_exec.proofs.DenyLemmas.{all, are_typed, IsHere, all_here, shown_all}
 use Rattle.bdb_exec.proofs.LookingLemmas.{places_many, users_are}
 
 -- ---- users
@@ -100,7 +100,7 @@ among_at uid (slot ∷ slots) (suc i) n e = cond-false (nat_eq n uid) (Some slot
     apart n uid i e = grind (arith, nat_tests)
 
 number_same : (m n : ℕ) → IsNum m → IsNum n → eq_by_cmp bytes_cmp (num_bytes m) (num_bytes n) ≡ nat_eq m n
-number_same m n hm hn = both_ways (eq_by_cmp bytes_cmp (num_bytes m) (num_bytes n)) (nat_eq m n)
+number_same m n hm hn = same_tests (eq_by_cmp bytes_cmp (num_bytes m) (num_bytes n)) (nat_eq m n)
     (λ e. eq-eqb m n (numbers_are_one m n hm hn (same_place (num_bytes m) (num_bytes n) e)))
     (λ e. ap is_eq (numbers_in_order m n hm hn) ∙ ap (λ k. is_eq (nat_cmp m k)) (sym (eqb-true m n e)) ∙ same_number m)
   where
@@ -122,7 +122,7 @@ number_found uid (slot ∷ slots) n h few =
 -- what is found is found by a number
 found_number : (uid : ℕ) (slots : List UserSlot) (q r : List ℕ) → uid + length slots ≤ 2 ^ 32 → find bytes_cmp q (map (entry_bytes user_codec) (numbered uid slots)) ≡ Some r → (n : ℕ) × (q ≡ num_bytes n) × IsNum n
 unfolding numbered
-found_number uid [] q r few e = absurd (none_some r e)
+found_number uid [] q r few e = absurd (none_is_some r e)
 found_number uid (slot ∷ slots) q r few e = by (λ f. found_number (suc uid) slots q r (omega arith) f) (eq_by_cmp bytes_cmp q (num_bytes uid)) refl e
   where
     small : IsNum uid
@@ -162,57 +162,10 @@ few_users n h = grind (arith, nat_tests)
 
 -- ---- statements
 
-told_by : (keys : ℕ → ℕ) (stmts : List Stmt) (w : List ℕ) (u : Tuple) (s : Sign) → stated keys stmts w u s ≡ true → list_any (λ x. same_tuple x.tuple u) stmts ≡ true
-told_by keys stmts [] u s e = explicit_told stmts [] u s e
-  where
-    explicit_told : (stmts : List Stmt) (w : List ℕ) (u : Tuple) (s : Sign) → explicit stmts w u s ≡ true → list_any (λ x. same_tuple x.tuple u) stmts ≡ true
-    explicit_told stmts w u s e = list_any_weaker (λ x. same_path x.path w && (same_tuple x.tuple u && same_sign x.sign s)) (λ x. same_tuple x.tuple u)
-        (λ x k. (and_parts (same_tuple x.tuple u) (same_sign x.sign s) (and_parts (same_path x.path w) (same_tuple x.tuple u && same_sign x.sign s) k).1).0) stmts e
-told_by keys stmts (i ∷ w) u s e = elim (or_cases (explicit stmts (i ∷ w) u s) (stated keys stmts w u s && not (contradicted keys stmts (i ∷ w) u s)) e) [
-  | inl a ↦ list_any_weaker (λ x. same_path x.path (i ∷ w) && (same_tuple x.tuple u && same_sign x.sign s)) (λ x. same_tuple x.tuple u)
-      (λ x k. (and_parts (same_tuple x.tuple u) (same_sign x.sign s) (and_parts (same_path x.path (i ∷ w)) (same_tuple x.tuple u && same_sign x.sign s) k).1).0) stmts a
-  | inr b ↦ told_by keys stmts w u s (and_parts (stated keys stmts w u s) (not (contradicted keys stmts (i ∷ w) u s)) b).0
-]
-
--- a tuple that is stated fits its relation
-stated_fits : (c : Catalog) (xs : List Stmt) (u : Tuple) → list_all (belongs c) xs ≡ true → list_any (λ x. same_tuple x.tuple u) xs ≡ true → fits_relation c.rels u ≡ true
-stated_fits c [] u b e = absurd (false≢true e)
-stated_fits c (x ∷ xs) u b e =
-    let p = and_parts (belongs c x) (list_all (belongs c) xs) b in
-    let path = alternates x.path && nat_le (length x.path) deepest_statement && list_all (is_user c.users) x.path in
-    elim (or_cases (same_tuple x.tuple u) (list_any (λ y. same_tuple y.tuple u) xs) e) [
-      | inl k ↦ ap (fits_relation c.rels) (sym ((same_tuple-Decides x.tuple u).0 k)) ∙ (and_parts path (fits_relation c.rels x.tuple) p.0).1
-      | inr k ↦ stated_fits c xs u p.1 k
-    ]
-
-as_many : (cols : List ColDef) (vals : List Value) → fits_columns cols vals ≡ true → length vals ≡ length cols
-as_many [] [] e = refl
-as_many [] (v ∷ vals) e = absurd (false≢true e)
-as_many (c ∷ cols) [] e = absurd (false≢true e)
-as_many (c ∷ cols) (v ∷ vals) e = ap suc (as_many cols vals (and_parts (fits_kind c.kind v) (fits_columns cols vals) e).1)
-
 -- values that fit a relation are no fewer than its key has
 key_within : (o : Option RelDef) (vals : List Value) → MatchOption o (Unit {0}) IsRelRow → fits_definition o vals ≡ true → key_at o ≤ length vals
 key_within None vals row e = absurd (false≢true e)
-key_within (Some def) vals row e = let many = as_many def.cols vals e in omega (arith, many, row.key.1)
-
--- a sign by its tests is one that holds
-sign_holds : (plus minus : Bool) (s : Sign) → sign_by plus minus ≡ Some s → (s ≡ Plus → plus ≡ true) × (s ≡ Minus → minus ≡ true)
-sign_holds true minus s e = (λ _. refl, λ m. absurd (apart (some_sign (e ∙ ap Some m))))
-  where
-    some_sign : {a b : Sign} → Some a ≡ Some b → a ≡ b
-    some_sign e = cc
-
-    apart : Plus ≡ Minus → ⊥
-    apart e = cc
-sign_holds false true s e = (λ p. absurd (apart (some_sign (e ∙ ap Some p))), λ _. refl)
-  where
-    some_sign : {a b : Sign} → Some a ≡ Some b → a ≡ b
-    some_sign e = cc
-
-    apart : Minus ≡ Plus → ⊥
-    apart e = cc
-sign_holds false false s e = absurd cc
+key_within (Some def) vals row e = let many = as_many_values def.cols vals e in omega (arith, many, row.key.1)
 
 abbrev nothing : Mark
 nothing = (Plus, true)
@@ -299,7 +252,7 @@ module _ (ns : Names) (ts : Tuples) (t : Tables) (b : Contents) (valid : IsValid
           none None f = refl
           none (Some r) f =
               let k = found_number 1 b.catalog.users q r few f in
-              absurd (none_some r (sym e ∙ ap (λ x. tables.get t (user_codec.number ∷ x)) k.1 ∙ at_number k.0 k.2 ∙ ap (λ x. find bytes_cmp x (map (entry_bytes user_codec) (numbered 1 b.catalog.users))) (sym k.1) ∙ f))
+              absurd (none_is_some r (sym e ∙ ap (λ x. tables.get t (user_codec.number ∷ x)) k.1 ∙ at_number k.0 k.2 ∙ ap (λ x. find bytes_cmp x (map (entry_bytes user_codec) (numbered 1 b.catalog.users))) (sym k.1) ∙ f))
 
   places_shown : (sight_of t).places ≡ length b.catalog.users
   places_shown = sym (places_many t (numbered 1 b.catalog.users) users_under) ∙ numbered_many 1 b.catalog.users
@@ -377,7 +330,7 @@ module _ (ns : Names) (ts : Tuples) (t : Tables) (b : Contents) (valid : IsValid
 
   -- the number of a tuple that a state has
   number_told : (w : List ℕ) (u : Tuple) (s : Sign) → stated keys b.stmts w u s ≡ true → (tid : ℕ) × (ts.number u ≡ Some tid)
-  number_told w u s e = by (ts.number u) refl (h.tuples.stated u ∙ told_by keys b.stmts w u s e)
+  number_told w u s e = by (ts.number u) refl (h.tuples.stated u ∙ stated_tuples_are_explicit keys b.stmts w u s e)
     where
       by : (o : Option ℕ) → ts.number u ≡ o → is_some o ≡ true → (tid : ℕ) × (ts.number u ≡ Some tid)
       by None f i = absurd (false≢true i)
@@ -409,8 +362,8 @@ module _ (ns : Names) (ts : Tuples) (t : Tables) (b : Contents) (valid : IsValid
     mark_there e k i = signed_by (sign_in keys b.stmts w k.u) (keyed (has_key keys e.0 k.u) refl (sym named_row ∙ mapped (row_for keys b.stmts (path_of ns) ts.tuple e.0) (sym (h.rows.rows e.0 k.key) ∙ i)))
       where
         mapped : (o : Option Mark) → option_map mark_bytes o ≡ Some (mark_bytes e.1) → o ≡ Some e.1
-        mapped None f = absurd (none_some (mark_bytes e.1) f)
-        mapped (Some m) f = ap Some (mark_rows_are_one m e.1 tt tt (some_same (mark_bytes m) (mark_bytes e.1) f))
+        mapped None f = absurd (none_is_some (mark_bytes e.1) f)
+        mapped (Some m) f = ap Some (mark_rows_are_one m e.1 tt tt (same_some (mark_bytes m) (mark_bytes e.1) f))
 
         named_row : row_for keys b.stmts (path_of ns) ts.tuple e.0 ≡ cond (has_key keys e.0 k.u) (mark_of keys b.stmts w k.u) None
         named_row =
@@ -452,7 +405,7 @@ module _ (ns : Names) (ts : Tuples) (t : Tables) (b : Contents) (valid : IsValid
     found_one : (k : ValKey) (m : Mark) → IsValKey k → ts.tuple k.3 ≡ Some u → m.0 ≡ s → (xs : List (ValKey × Mark)) → AllByRecursion Here xs → find bytes_cmp (place val_codec k) (map (raw val_codec) xs) ≡ Some (mark_bytes m)
         → list_any shows (map (signed_of t) xs) ≡ true
     unfolding shows
-    found_one k m vk tuple sign [] a f = absurd (none_some (mark_bytes m) f)
+    found_one k m vk tuple sign [] a f = absurd (none_is_some (mark_bytes m) f)
     found_one k m vk tuple sign (e ∷ xs) a f = by (λ g. found_one k m vk tuple sign xs a.1 g) (eq_by_cmp bytes_cmp (place val_codec k) (place val_codec e.0)) refl f
       where
         one : (o : Option Tuple) (x y : Tuple) → o ≡ Some x → o ≡ Some y → x ≡ y
@@ -462,15 +415,11 @@ module _ (ns : Names) (ts : Tuples) (t : Tables) (b : Contents) (valid : IsValid
             → cond c (Some (mark_bytes e.1)) (find bytes_cmp (place val_codec k) (map (raw val_codec) xs)) ≡ Some (mark_bytes m) → list_any (λ x. same_tuple x.0 u && same_sign x.1 s) (map (signed_of t) (e ∷ xs)) ≡ true
         by rest true c g =
             let key : k ≡ e.0 = vals_are_one k e.0 vk a.0.key (ap (λ x. Rattle.std.specs.Prelude.drop 1 x) (same_place (place val_codec k) (place val_codec e.0) c)) in
-            let mark : e.1 ≡ m = mark_rows_are_one e.1 m tt tt (some_same (mark_bytes e.1) (mark_bytes m) g) in
+            let mark : e.1 ≡ m = mark_rows_are_one e.1 m tt tt (same_some (mark_bytes e.1) (mark_bytes m) g) in
             let same : a.0.u ≡ u = one (ts.tuple e.0.3) a.0.u u a.0.named (ap (λ (x : ValKey). ts.tuple x.3) (sym key) ∙ tuple) in
-            or_from_left (same_tuple (signed_of t e).0 u && same_sign (signed_of t e).1 s) (list_any (λ x. same_tuple x.0 u && same_sign x.1 s) (map (signed_of t) xs))
+            or_left (same_tuple (signed_of t e).0 u && same_sign (signed_of t e).1 s) (list_any (λ x. same_tuple x.0 u && same_sign x.1 s) (map (signed_of t) xs))
             (ap (λ x. same_tuple x.0 u && same_sign x.1 s) (signed_is t e a.0.u a.0.row)
             ∙ and_from (same_tuple a.0.u u) (same_sign e.1.0 s) ((same_tuple-Decides a.0.u u).1 same) ((same_sign-Decides e.1.0 s).1 (ap (λ (x : Mark). x.0) mark ∙ sign)))
-          where
-            or_from_left : (x y : Bool) → x ≡ true → (x || y) ≡ true
-            or_from_left true y p = refl
-            or_from_left false y p = absurd (false≢true p)
         by rest false c g = or_right (same_tuple (signed_of t e).0 u && same_sign (signed_of t e).1 s) (list_any (λ x. same_tuple x.0 u && same_sign x.1 s) (map (signed_of t) xs)) (rest g)
 
     stated_there : (nat_eq u.rel rel && stated keys b.stmts w u s) ≡ true → list_any shows (map (signed_of t) es) ≡ true
@@ -496,10 +445,10 @@ module _ (ns : Names) (ts : Tuples) (t : Tables) (b : Contents) (valid : IsValid
         ∙ ap (row_named keys b.stmts k (Some w)) tuple
         ∙ cond-true (has_key keys k u) (mark_of keys b.stmts w u) None has
         ∙ ap (marked (explicit b.stmts w u)) (sign_of_row w u s p.1) in
-        let begins : is_prefix (val_codec.number ∷ world_prefix (world_number ns w) rel) (place val_codec k) ≡ true = prefix_append (world_prefix (world_number ns w) rel) (vals_bytes (key_of keys u) ++ num_bytes id.0) in
-        let found : find bytes_cmp (place val_codec k) (rows_at t (val_codec.number ∷ world_prefix (world_number ns w) rel)) ≡ Some (mark_bytes m) =
-        at_find val_codec t (val_codec.number ∷ world_prefix (world_number ns w) rel) (place val_codec k)
-        ∙ cond-true (is_prefix (val_codec.number ∷ world_prefix (world_number ns w) rel) (place val_codec k)) (tables.get t (place val_codec k)) None begins
+        let begins : is_prefix (val_codec.number ∷ relation_prefix (world_number ns w) rel) (place val_codec k) ≡ true = prefix_append (relation_prefix (world_number ns w) rel) (vals_bytes (key_of keys u) ++ num_bytes id.0) in
+        let found : find bytes_cmp (place val_codec k) (rows_at t (val_codec.number ∷ relation_prefix (world_number ns w) rel)) ≡ Some (mark_bytes m) =
+        at_find val_codec t (val_codec.number ∷ relation_prefix (world_number ns w) rel) (place val_codec k)
+        ∙ cond-true (is_prefix (val_codec.number ∷ relation_prefix (world_number ns w) rel) (place val_codec k)) (tables.get t (place val_codec k)) None begins
         ∙ h.rows.rows k vk ∙ ap (option_map mark_bytes) is in
         found_one k m vk tuple refl es here (ap (find bytes_cmp (place val_codec k)) (sym (are_typed t run (world_number ns w) rel (number_sized w state) nr).rows) ∙ found)
 
@@ -507,7 +456,7 @@ module _ (ns : Names) (ts : Tuples) (t : Tables) (b : Contents) (valid : IsValid
     unfolding es shows
     rows_inside =
         ap (list_any shows) (shown_all t run (world_number ns w) rel (number_sized w state) nr)
-        ∙ both_ways (list_any shows (map (signed_of t) es)) (nat_eq u.rel rel && stated keys b.stmts w u s) (some_stated es here there) stated_there
+        ∙ same_tests (list_any shows (map (signed_of t) es)) (nat_eq u.rel rel && stated keys b.stmts w u s) (some_stated es here there) stated_there
 
   no_rows : (w : List ℕ) (rel : ℕ) → nat_lt rel (2 ^ 32) ≡ false → (sight_of t).rows (world_number ns w) rel ≡ []
   unfolding sight_of

@@ -16,16 +16,12 @@ use Rattle.bdb_base.specs.Same.{tuple_of}
 use Rattle.bdb_key.specs.Bytes.{num_bytes, raised, text_bytes, value_bytes, values_bytes}
 use Rattle.bdb_key.specs.Grammar.{IsNum, IsPlain, ArePlain}
 use Rattle.bdb_key.specs.Rows.{IsTupleRow, tuple_bytes, mark_bytes}
-use Rattle.bdb_key.proofs.Compared.{IsPrinting, printing}
+use Rattle.bdb_key.proofs.Compared.{IsPrinting, printing, raised_lt}
 use Rattle.bdb_exec.specs.Spelled.{number_in, lowered, before_end, behind_end, values_in, tuple_in}
 use Rattle.bdb_exec.specs.Seen.{sign_in}
 
 pub number_back : (n : ℕ) → IsNum n → number_in (num_bytes n) ≡ n
 number_back n h = from_be_bytes-to_be_bytes_4 n h
-
-raised_small : (m : ℤ) → FitsSigned w64 m → raised m < 2 ^ 64
-raised_small (pos m) f = omega (arith, f.sfits)
-raised_small (negsuc m) f = omega arith
 
 whole_back : (m : ℤ) → FitsSigned w64 m → lowered (raised m) ≡ m
 whole_back (pos n) f =
@@ -73,7 +69,7 @@ values_back (suc most) [] a le = refl
 values_back zero (v ∷ vs) a le = absurd (omega arith)
 values_back (suc most) (Int m ∷ vs) a le =
     let rest = values_back most vs a.1 (omega arith) in
-    ap (λ n. Int (lowered n) ∷ values_in most (values_bytes vs)) (from_be_bytes-to_be_bytes_8 (raised m) (raised_small m a.0))
+    ap (λ n. Int (lowered n) ∷ values_in most (values_bytes vs)) (from_be_bytes-to_be_bytes_8 (raised m) (raised_lt m a.0))
     ∙ ap (λ n. Int n ∷ values_in most (values_bytes vs)) (whole_back m a.0)
     ∙ ap (λ (x : List Value). Int m ∷ x) rest
 values_back (suc most) (Text t ∷ vs) a le =

@@ -1,5 +1,5 @@
 -- The rows of a table whose keys begin so, typed: what is read is what the tables show.
-use Rattle.std.proofs.Common.{◌≡◌, ◌∙◌, ℕ, Bool, true, false, cond, nat_eq, List, [], ◌∷◌, Some, None, map, refl, ap, sym, subst, inl, inr}
+use Rattle.std.proofs.Common.{◌≡◌, ◌∙◌, ℕ, true, false, cond, nat_eq, List, [], ◌∷◌, Some, None, map, refl, ap, sym, inl, inr}
 use Rattle.std.specs.Prelude.{T}
 use Rattle.std.specs.List.{list_all, AllByRecursion}
 use Rattle.std.specs.Ordering.{is_lt, is_eq, eq_by_cmp, ordering_then}
@@ -13,13 +13,11 @@ use Rattle.bdb_base.specs.SortedSet.{ascending}
 use Rattle.bdb_keep.specs.Tables.{Tables, bytes_cmp}
 use Rattle.bdb_key.proofs.Forms.{same_bytes}
 use Rattle.bdb_base.proofs.Numbers.{equal}
+use Rattle.bdb_base.proofs.BoolLemmas.{T_of, is_T}
+use Rattle.bdb_keep.proofs.RowsLemmas.{same_place}
 use Rattle.bdb_tables.specs.Codec.{Codec, place}
 use Rattle.bdb_tables.specs.Spans.{AreUnder, IsUnder, entry_bytes, entry_cmp}
-use Rattle.bdb_tables.proofs.Held.{same_place}
 use Rattle.bdb_exec.specs.Seen.{rows_at}
-
-T_of : (b : Bool) → b ≡ true → T b
-T_of b e = subst T (sym e) tt
 
 -- places are compared as their keys are
 same_table : (n : ℕ) (k q : List ℕ) → bytes_cmp (n ∷ k) (n ∷ q) ≡ bytes_cmp k q
@@ -36,20 +34,12 @@ module _ {Key Row : Type 0} (c : Codec Key Row) where
       let p = and_parts (is_lt (entry_cmp c e y)) (list_all (λ z. is_lt (entry_cmp c e z)) es) h in
       T_of _ (and_from (is_lt (bytes_cmp (place c e.0) (place c y.0))) (below_all bytes_cmp (place c e.0) (map raw es))
       (ap is_lt (same_table c.number (c.key_bytes e.0) (c.key_bytes y.0)) ∙ p.0) (is_T _ (raw_below e es p.1)))
-    where
-      is_T : (b : Bool) → T b → b ≡ true
-      is_T true h = refl
-      is_T false h = absurd h
 
   raw_sorted : (es : List (Key × Row)) → ascending (entry_cmp c) es ≡ true → T (is_sorted bytes_cmp (map raw es))
   raw_sorted [] h = tt
   raw_sorted (e ∷ es) h =
       let p = and_parts (list_all (λ y. is_lt (entry_cmp c e y)) es) (ascending (entry_cmp c) es) h in
       T_of _ (and_from (below_all bytes_cmp (place c e.0) (map raw es)) (is_sorted bytes_cmp (map raw es)) (is_T _ (raw_below e es p.0)) (is_T _ (raw_sorted es p.1)))
-    where
-      is_T : (b : Bool) → T b → b ≡ true
-      is_T true h = refl
-      is_T false h = absurd h
 
   -- what is found by a place is found by its key
   raw_find : (k : List ℕ) (es : List (Key × Row)) → find bytes_cmp (c.number ∷ k) (map raw es) ≡ find bytes_cmp k (map (entry_bytes c) es)

@@ -17,6 +17,9 @@ use Rattle.bdb_base.specs.declared.kinds.Sign.{Sign}
 use Rattle.bdb_base.specs.declared.kinds.Sign.TheVariants.{Plus, Minus}
 use Rattle.bdb_base.specs.declared.tuple.Tuple.{Tuple}
 use Rattle.bdb_base.specs.Segments.{is_prefix}
+use Rattle.bdb_base.proofs.BoolLemmas.{is_T}
+use Rattle.bdb_base.proofs.OptionLemmas.{none_is_some, same_some}
+use Rattle.bdb_base.proofs.AllLemmas.{all_weaker, all_both, all_filter}
 use Rattle.bdb_keep.specs.Tables.{Tables, bytes_cmp}
 use Rattle.bdb_key.specs.Bytes.{num_bytes, vals_bytes}
 use Rattle.bdb_key.specs.Grammar.{IsNum}
@@ -29,24 +32,13 @@ use Rattle.bdb_tables.specs.Marks.{Mark, mark_of}
 use Rattle.bdb_tables.specs.GroupMarks.{numbered}
 use Rattle.bdb_tables.specs.Rows.{has_key, row_named, row_for}
 use Rattle.bdb_tables.specs.Spans.{AreUnder, IsUnder}
-use Rattle.bdb_tables.proofs.Held.{some_same, none_some}
-use Rattle.bdb_tables.proofs.ListLemmas.{all_filter, all_pass}
+use Rattle.bdb_tables.proofs.ListLemmas.{all_pass}
 use Rattle.bdb_exec.specs.Readable.{CanBeRun}
 use Rattle.bdb_exec.specs.Rows.{HasTuple, HasPushed, signed_at, signed_of}
 use Rattle.bdb_exec.specs.Seen.{rows_at, sight_of, sign_in, signed_in, signed_under}
 use Rattle.bdb_exec.specs.Spelled.{tuple_in}
 use Rattle.bdb_exec.proofs.SpelledLemmas.{tuple_back, sign_back}
 use Rattle.bdb_exec.proofs.TypedLemmas.{raw, rows_are}
-
--- ---- lists
-
-pub all_map : {X : Type 0} (P Q : X → Type 0) (xs : List X) → ((x : X) → P x → Q x) → AllByRecursion P xs → AllByRecursion Q xs
-all_map P Q [] f h = tt
-all_map P Q (x ∷ xs) f h = (f x h.0, all_map P Q xs f h.1)
-
-pub all_both : {X : Type 0} (P Q R : X → Type 0) (xs : List X) → ((x : X) → P x → Q x → R x) → AllByRecursion P xs → AllByRecursion Q xs → AllByRecursion R xs
-all_both P Q R [] f h k = tt
-all_both P Q R (x ∷ xs) f h k = (f x h.0 k.0, all_both P Q R xs f h.1 k.1)
 
 -- ---- what is found at the places of tables
 
@@ -58,10 +50,6 @@ pair a b = (a, b)
 
 abbrev signed : Tuple → Sign → Tuple × Sign
 signed v s = (v, s)
-
-is_T : (b : Bool) → T b → b ≡ true
-is_T true h = refl
-is_T false h = absurd h
 
 later_found : (x : Raw) (all es : List Raw) → T (below_all bytes_cmp x.0 es) → AllByRecursion (λ e. find bytes_cmp e.0 all ≡ Some e.1) es → AllByRecursion (λ e. find bytes_cmp e.0 (x ∷ all) ≡ Some e.1) es
 later_found x all [] b h = tt
@@ -88,7 +76,7 @@ module _ (t : Tables) where
   rows_found : (begin : List ℕ) → AllByRecursion (λ e. tables.get t e.0 ≡ Some e.1) (rows_at t begin)
   rows_found begin =
       all_filter (λ e. tables.get t e.0 ≡ Some e.1) (λ e. is_prefix begin e.0) (tables.entries t)
-      (all_map (λ e. find bytes_cmp e.0 (tables.entries t) ≡ Some e.1) (λ e. tables.get t e.0 ≡ Some e.1) (tables.entries t) (λ e h. tables.get-entries t e.0 ∙ h)
+      (all_weaker (λ e. find bytes_cmp e.0 (tables.entries t) ≡ Some e.1) (λ e. tables.get t e.0 ≡ Some e.1) (tables.entries t) (λ e h. tables.get-entries t e.0 ∙ h)
       (all_found (tables.entries t) (tables.entries_sorted t)))
 
   -- a row stands in the tables
@@ -236,8 +224,8 @@ module _ (t : Tables) (h : CanBeRun t) where
   tuple_named tid u n r = one (h.tuples.tuple tid) (h.held.tuples.written tid n) (sym (h.held.tuples.rows tid n) ∙ r.found)
     where
       one : (o : Option Tuple) → MatchOption o (Unit {0}) IsTupleRow → option_map tuple_bytes o ≡ Some (tuple_bytes u) → o ≡ Some u
-      one None w e = absurd (none_some (tuple_bytes u) e)
-      one (Some v) w e = ap Some (tuple_rows_are_one v u w r.in_grammar (some_same (tuple_bytes v) (tuple_bytes u) e))
+      one None w e = absurd (none_is_some (tuple_bytes u) e)
+      one (Some v) w e = ap Some (tuple_rows_are_one v u w r.in_grammar (same_some (tuple_bytes v) (tuple_bytes u) e))
 
   -- a row's number stands for a tuple, which has the row's relation and key
   abbrev pub StandsForTuple : ValKey × Mark → Type 0
@@ -256,7 +244,7 @@ module _ (t : Tables) (h : CanBeRun t) where
   one_told e k there = row_told e.0 (h.path e.0.0) (h.tuples.tuple e.0.3) (mapped (row_for (sight_of t).keys h.stmts h.path h.tuples.tuple e.0) (sym (h.rows.rows e.0 k) ∙ there))
     where
       mapped : (o : Option Mark) → option_map mark_bytes o ≡ Some (mark_bytes e.1) → is_some o ≡ true
-      mapped None e = absurd (none_some _ e)
+      mapped None e = absurd (none_is_some _ e)
       mapped (Some m) e = refl
 
   pub all_told : (prefix : List ℕ) (es : List (ValKey × Mark)) → AreTyped t prefix es → AllByRecursion StandsForTuple es

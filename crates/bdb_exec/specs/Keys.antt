@@ -1,20 +1,19 @@
 -- Which tuples the tests right behind a choice let through, and which first values of a tuple they ask for.
 use Rattle.std.specs.Prelude.{ℕ, suc, Bool, true, not, ◌&&◌, nat_eq, nat_lt, cond, List, [], ◌∷◌, Option, Some, None, is_some, length, filter, take, slice_set}
 use Prim.Native.Nat.{zero}
-use Rattle.bdb_base.specs.Safety.{is_column, is_equality, same_column, first_there}
+use Rattle.bdb_base.specs.Safety.{is_column, is_equality, same_column, first_there, column}
 use Rattle.bdb_base.specs.Same.{same_values}
 use Rattle.bdb_base.specs.declared.kinds.Cond.{Cond}
 use Rattle.bdb_base.specs.declared.kinds.Operand.{Operand}
 use Rattle.bdb_base.specs.declared.kinds.Operand.TheVariants.{Col, Lit}
-use Rattle.bdb_base.specs.declared.kinds.Ref.{Ref}
 use Rattle.bdb_base.specs.declared.kinds.Sign.{Sign}
 use Rattle.bdb_base.specs.declared.kinds.Value.{Value}
 use Rattle.bdb_base.specs.declared.tuple.Tuple.{Tuple}
 use Rattle.bdb_queries.specs.Slots.{known, known_operand, must_hold}
-use Rattle.bdb_plan.specs.Running.{Reached, choices, settled, with_choice}
+use Rattle.bdb_plan.specs.Running.{Reached, choices, decided, with_choice}
 use Rattle.bdb_plan.specs.Sight.{Sight}
 use Rattle.bdb_plan.specs.declared.step.Step.{Step}
-use Rattle.bdb_tables.specs.Beginnings.{led_by}
+use Rattle.bdb_tables.specs.Prefixes.{led_by}
 use Rattle.bdb_plan.specs.declared.step.Step.TheVariants as step
 
 -- ---- tests
@@ -30,10 +29,6 @@ abbrev pub passes : List (Option Tuple) → ℕ → List Step → Tuple → Bool
 passes slots item behind t = tests_hold (slice_set slots item (Some t)) behind
 
 -- ---- what tests ask for
-
--- an item's column
-abbrev pub column : ℕ → ℕ → Ref
-column item col = record { item = item; col = col }
 
 -- an operand is a column of another item or a literal
 abbrev pub names_another : ℕ → Operand → Bool
@@ -58,14 +53,14 @@ value_behind slots item [] col = None
 value_behind slots item (step.Test c ∷ xs) col = first_there (value_of_test slots item col c) (value_behind slots item xs col)
 value_behind slots item (_ ∷ xs) col = None
 
--- ---- beginnings of keys
+-- ---- prefixes of keys
 
 -- the values that are asked for of at most so many columns from one on, up to the first of which none is asked for
 abbrev pub values_behind : List (Option Tuple) → ℕ → List Step → ℕ → ℕ → List Value
 values_behind slots item behind zero col = []
 values_behind slots item behind (suc most) col = led_by (value_behind slots item behind col) (values_behind slots item behind most (suc col))
 
--- the values that are asked for of the first columns of a key that has so many: as long a beginning of the key as there is
+-- the values that are asked for of the first columns of a key that has so many: as long a prefix of the key as there is
 abbrev pub key_asked : ℕ → List (Option Tuple) → ℕ → List Step → List Value
 key_asked n slots item behind = cond (nat_lt item (length slots)) (values_behind slots item behind n 0) []
 
@@ -98,4 +93,4 @@ choices_before sight s x behind = narrowed s behind (choices sight s x)
 
 -- where a step leads, but for choices that the tests right behind refuse
 abbrev pub after_before : Sight → Reached → Step → List Step → List Reached
-after_before sight s x behind = with_choice s (choices_before sight s x behind) (settled sight s x)
+after_before sight s x behind = with_choice s (choices_before sight s x behind) (decided sight s x)

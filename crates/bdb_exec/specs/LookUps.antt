@@ -1,4 +1,4 @@
--- How often an execution reads at most: of the beginning of a key that is asked for, only its rows; of what a test refuses,
+-- How often an execution reads at most: of the prefix of a key that is asked for, only its rows; of what a test refuses,
 -- nothing more.
 use Rattle.std.specs.Prelude.{ℕ, ◌+◌, ◌*◌, List, [], ◌∷◌, Option, Some, None, length, take}
 use Rattle.std.specs.List.{sum_by}
@@ -31,13 +31,13 @@ deny_looks n rows None = 0
 deny_looks n rows (Some t) = length (rows_of_key (take n t.vals) rows) + 3
 
 -- how often a step reads at most at which nothing is chosen
-abbrev pub settled_looks : Sight → Reached → Step → ℕ
-settled_looks sight s (step.Edge item who) = 1
-settled_looks sight s (step.Neg item rel) = deny_looks (sight.keys rel) (sight.rows s.world rel) (slot_at s.slots item)
-settled_looks sight s _ = 0
+abbrev pub decided_looks : Sight → Reached → Step → ℕ
+decided_looks sight s (step.Edge item who) = 1
+decided_looks sight s (step.Neg item rel) = deny_looks (sight.keys rel) (sight.rows s.world rel) (slot_at s.slots item)
+decided_looks sight s _ = 0
 
 abbrev pub own_looks : Sight → Reached → Step → List Step → ℕ
-own_looks sight s x behind = choice_looks sight s x behind + settled_looks sight s x
+own_looks sight s x behind = choice_looks sight s x behind + decided_looks sight s x
 
 -- how often steps read at most: the rest is run again for each choice that the tests right behind it let through
 abbrev pub looks_from : Sight → List Step → Reached → ℕ

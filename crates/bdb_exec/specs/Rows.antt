@@ -24,12 +24,12 @@ abbrev pub tuple_of_slot : ℕ × UserSlot → Option Tuple
 tuple_of_slot e = option_map (user_tuple e.0) (live_name e.1)
 
 -- how the keys of a world's rows of a relation begin
-abbrev pub world_prefix : ℕ → ℕ → List ℕ
-world_prefix world rel = num_bytes world ++ num_bytes rel
+abbrev pub relation_prefix : ℕ → ℕ → List ℕ
+relation_prefix world rel = num_bytes world ++ num_bytes rel
 
 -- how the keys of those rows begin whose tuples have a key of some length that begins with these values
 abbrev pub key_prefix : ℕ → ℕ → ℕ → List Value → List ℕ
-key_prefix n world rel vs = world_prefix world rel ++ num_bytes n ++ values_bytes vs
+key_prefix n world rel vs = relation_prefix world rel ++ num_bytes n ++ values_bytes vs
 
 -- a row's signed tuple, as the tables show it
 abbrev pub signed_of : Tables → ValKey × Mark → Tuple × Sign

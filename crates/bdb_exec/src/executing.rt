@@ -26,11 +26,11 @@ use std::alloc::Global;
 pub type Rows = List<List<Value>>;
 
 /// The rows that a plan means over what the tables of a keeper show: in order, each once. `TooMany` comes exactly where
-/// there are more than an answer may have. Of a world it reads the rows of a relation, or of the beginning of a key where the
+/// there are more than an answer may have. Of a world it reads the rows of a relation, or of the prefix of a key where the
 /// tests behind the choice ask for its first columns. Users, edges, the lengths of keys, the tuples of a whole relation in a world,
-/// and each tuple that was decoded are remembered until the end; and of each world and relation the tuples of the beginning of a
+/// and each tuple that was decoded are remembered until the end; and of each world and relation the tuples of the prefix of a
 /// key that was asked for last.
-pub fn execute<K: Keeper>(alloc: Global, keeper: &mut K, plan: &Plan) -> Result<Rows, ExecError>
+pub fn run_plan<K: Keeper>(alloc: Global, keeper: &mut K, plan: &Plan) -> Result<Rows, ExecError>
     requires run { CanBeRun (K.seen keeper.old).kept }
     ensures rows { IfOk result (λ rows. rows ≡ meaning_of (sight_of (K.seen keeper.old).kept)
         plan.now) }

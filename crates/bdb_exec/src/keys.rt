@@ -1,13 +1,13 @@
 // Which first values a choice's tuple has to have, by the tests right behind it.
 ghost use Rattle.std.specs.Prelude.{◌≡◌};
 ghost use Rattle.std.specs.Option.{option_copied};
-ghost use Rattle.bdb_base.specs.Safety.{is_column, is_equality};
-ghost use Rattle.bdb_exec.specs.Keys.{asks_for_key, asks_on_left, asks_on_right, column, names_another, value_behind, value_of_test};
+ghost use Rattle.bdb_base.specs.Safety.{column, is_column, is_equality};
+ghost use Rattle.bdb_exec.specs.Keys.{asks_for_key, asks_on_left, asks_on_right, names_another, value_behind, value_of_test};
 
 use crate::shared::Shared;
-use crate::slots::{known, known_operand};
 use bdb_base::{Cmp, Cond, Operand, Value};
 use bdb_plan::Step;
+use bdb_queries::{known, known_operand};
 
 /// Whether the tests right behind ask for a value of an item's first column.
 pub fn asks_for_key(slots: &[Option<Shared>], item: u32, behind: &[Step]) -> bool

@@ -1,6 +1,7 @@
 //! Running plans over tables: the rows that a plan means, over what the tables of a keeper show.
 #![tactic(auto)]
 
+mod deciding;
 mod errors;
 mod executing;
 mod keys;
@@ -11,10 +12,9 @@ mod passing;
 mod prefixes;
 mod reading;
 mod running;
-mod settling;
 mod shared;
 mod slots;
 mod state;
 
 pub use errors::ExecError;
-pub use executing::{Rows, execute};
+pub use executing::{Rows, run_plan};

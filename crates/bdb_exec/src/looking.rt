@@ -15,7 +15,7 @@ ghost use Rattle.bdb_exec.specs.Rows.{HasTuple, IsNumberOf, HasPushed, signed_at
 ghost use Rattle.bdb_exec.specs.Seen.{sight_of, signed_under};
 
 use crate::memo::{Memo, keep_pool, keep_tuple, last_pool};
-use crate::prefixes::{are_written, put_group, put_key, put_world};
+use crate::prefixes::{are_written, put_group, put_key_prefix, put_relation_prefix};
 use crate::shared::Shared;
 use crate::state::State;
 use bdb_base::{Exact, List, Sign, Tuple, UserSlot, key_of};
@@ -103,7 +103,7 @@ pub fn edge<K: Keeper>(
 }
 
 /// How long the key of a relation is. One read, the first time.
-pub fn key_length_of<K: Keeper>(
+pub fn read_key_length<K: Keeper>(
     alloc: Global,
     keeper: &mut K,
     memo: &mut Memo,
@@ -154,7 +154,7 @@ pub fn plus_tuples<K: Keeper>(
     ensures looks { OnlyReads (K.seen keeper.old) (K.seen keeper.new) result TabError.Fault }
 {
     let mut prefix = Vec::new(alloc);
-    if put_world(&mut prefix, world, rel).is_err() {
+    if put_relation_prefix(&mut prefix, world, rel).is_err() {
         keeper.undo();
         return Err(TabError::Memory);
     }
@@ -189,7 +189,7 @@ pub fn plus_tuples_of_key<K: Keeper>(
     ensures memo { OnOk result (Recalls (K.seen keeper.old).kept memo.new) }
     ensures looks { OnlyReads (K.seen keeper.old) (K.seen keeper.new) result TabError.Fault }
 {
-    let n = match key_length_of(alloc, keeper, memo, rel) {
+    let n = match read_key_length(alloc, keeper, memo, rel) {
         Ok(n) => n,
         Err(error) => return Err(error),
     };
@@ -237,7 +237,7 @@ fn plus_tuples_asked<K: Keeper>(
     ensures looks { OnlyReads (K.seen keeper.old) (K.seen keeper.new) result TabError.Fault }
 {
     let mut prefix = Vec::new(alloc);
-    match put_key(&mut prefix, world, rel, n, slots, item, behind) {
+    match put_key_prefix(&mut prefix, world, rel, n, slots, item, behind) {
         Ok(true) => {}
         Ok(false) => return Ok(List::new(alloc)),
         Err(_) => {
@@ -468,7 +468,7 @@ fn denies_of<K: Keeper>(
     ensures memo { OnOk result (Recalls (K.seen keeper.old).kept memo.new) }
     ensures looks { OnlyReads (K.seen keeper.old) (K.seen keeper.new) result TabError.Fault }
 {
-    let n = match key_length_of(alloc, keeper, memo, rel) {
+    let n = match read_key_length(alloc, keeper, memo, rel) {
         Ok(n) => n,
         Err(error) => return Err(error),
     };

@@ -29,7 +29,7 @@ pub struct Memo {
     pub tuples: BTreeMap<u32, Shared>,
     /// The tuples that a world has with plus, by world and relation.
     pub pools: BTreeMap<(u32, u32), List<Shared>>,
-    /// The tuples of the beginning of a key that was asked for last, by world and relation.
+    /// The tuples of the prefix of a key that was asked for last, by world and relation.
     pub last_pools: BTreeMap<(u32, u32), KeyPool>,
     /// Where edges lead, by world and user.
     pub edges: BTreeMap<(u32, u32), Option<u32>>,

@@ -5,24 +5,25 @@ ghost use Rattle.bdb_key.specs.Bytes.{num_bytes};
 ghost use Rattle.bdb_key.specs.Grammar.{AreKeyVals};
 ghost use Rattle.bdb_tables.specs.InUse.{HaveKeyTexts};
 ghost use Rattle.bdb_tables.specs.GroupMarks.{group_bytes};
-ghost use Rattle.bdb_tables.specs.Beginnings.{HasPutValues, is_written};
+ghost use Rattle.bdb_base.specs.Bases.{is_written};
+ghost use Rattle.bdb_tables.specs.Prefixes.{HasPutValues};
 ghost use Rattle.bdb_exec.specs.Keys.{values_behind};
-ghost use Rattle.bdb_exec.specs.Rows.{world_prefix};
+ghost use Rattle.bdb_exec.specs.Rows.{relation_prefix};
 
 use crate::keys::value_behind;
 use crate::shared::Shared;
-use bdb_base::{Value, is_plain};
+use bdb_base::{Value, is_written};
 use bdb_key::{put_num, put_value};
 use bdb_plan::Step;
 use bdb_tables::put_key_vals;
 use std::alloc::AllocError;
 
-// Most beginnings of keys have at most as many bytes.
+// Most prefixes of keys have at most as many bytes.
 const PREFIX_ROOM: usize = 64;
 
 /// How the keys of a world's rows of a relation begin.
-pub fn put_world(prefix: &mut Vec<u8>, world: u32, rel: u32) -> Result<(), AllocError>
-    ensures { OnOk result (prefix.new.items ≡ prefix.old.items ++ world_prefix world rel) }
+pub fn put_relation_prefix(prefix: &mut Vec<u8>, world: u32, rel: u32) -> Result<(), AllocError>
+    ensures { OnOk result (prefix.new.items ≡ prefix.old.items ++ relation_prefix world rel) }
 {
     prefix.reserve(PREFIX_ROOM)?;
     put_num(prefix, world)?;
@@ -32,7 +33,7 @@ pub fn put_world(prefix: &mut Vec<u8>, world: u32, rel: u32) -> Result<(), Alloc
 
 /// How the keys of those rows begin whose tuples have a key of the length `n` that begins with the values that the tests right
 /// behind a choice ask for. False where one of these is a text that keys may not have.
-pub fn put_key(
+pub fn put_key_prefix(
     prefix: &mut Vec<u8>,
     world: u32,
     rel: u32,
@@ -42,7 +43,7 @@ pub fn put_key(
     behind: &[Step],
 ) -> Result<bool, AllocError>
     ensures { IfOk result
-        (λ all. HasPutValues all (prefix.old.items ++ (world_prefix world rel ++ num_bytes n))
+        (λ all. HasPutValues all (prefix.old.items ++ (relation_prefix world rel ++ num_bytes n))
         prefix.new.items (values_behind slots.now item behind.now n 0)) }
 {
     prefix.reserve(PREFIX_ROOM)?;
@@ -103,14 +104,4 @@ pub fn are_written(values: &[Value]) -> bool
     ensures { result ≡ list_all is_written values.now }
 {
     values.iter().all(|value| is_written(value))
-}
-
-// Whether a text is one that keys may have.
-fn is_written(value: &Value) -> bool
-    ensures { result ≡ is_written value.now }
-{
-    match value {
-        Value::Int(_) => true,
-        Value::Text(text) => is_plain(text),
-    }
 }

@@ -12,16 +12,15 @@ ghost use Rattle.bdb_exec.specs.Memos.{Recalls};
 ghost use Rattle.bdb_exec.specs.Readable.{CanBeRun};
 ghost use Rattle.bdb_exec.specs.Seen.{sight_of};
 
+use crate::deciding::decide;
 use crate::memo::Memo;
 use crate::reading::choices;
-use crate::settling::settle;
 use crate::shared::Shared;
-use crate::slots::known_row;
 use crate::state::State;
 use bdb_base::{List, Ref};
 use bdb_keep::Keeper;
 use bdb_plan::Step;
-use bdb_queries::Found;
+use bdb_queries::{Found, known_row};
 use bdb_tables::TabError;
 use std::alloc::{AllocError, Global};
 
@@ -87,7 +86,7 @@ pub fn advance<K: Keeper>(
             Ok(None) => {}
             Err(error) => return Err(error),
         }
-        match settle(alloc, keeper, memo, step, state) {
+        match decide(alloc, keeper, memo, step, state) {
             Ok(Some(next)) => state = next,
             Ok(None) => return Ok(Came::Nothing),
             Err(error) => return Err(error),

@@ -6,8 +6,8 @@ ghost use Rattle.bdb_queries.specs.Slots.{slot_at, known_operand};
 ghost use Rattle.bdb_plan.specs.Running.{start_of, with_world, with_slot, with_value};
 
 use crate::shared::Shared;
-use crate::slots::known_operand;
 use bdb_base::{Exact, List, Operand, Tuple, Value};
+use bdb_queries::known_operand;
 use std::alloc::{AllocError, Global};
 use std::marker::Model;
 use std::mem;

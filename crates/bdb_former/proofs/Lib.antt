@@ -1,4 +1,2 @@
 pub mod SpellLemmas
 pub mod TableLemmas
-pub mod WalkLemmas
-pub mod CopyLemmas

@@ -5,9 +5,10 @@ use Rattle.std.specs.FinMap.{find, get-entries, get-from_entries}
 use Rattle.std.specs.Option.{option_map}
 use Rattle.std.specs.Ordering.{eq_by_cmp}
 use Rattle.std.proofs.lemmas.Bool.{false≢true, false_from_ne_true}
-use Rattle.std.proofs.lemmas.Cmp.{nat_list_cmp_total, eq_by_cmp_equiv}
+use Rattle.std.proofs.lemmas.Cmp.{nat_list_cmp_total}
+use Rattle.bdb_base.proofs.OptionLemmas.{same_option}
 use Rattle.bdb_keep.specs.Tables.{IsPlace, LieInTables, Tables, bytes_cmp}
-use Rattle.bdb_keep.proofs.Gets.{get_after_insert, get_empty, get_here, tables_from_gets}
+use Rattle.bdb_keep.proofs.Gets.{get_after_insert, get_empty, get_here, tables_from_gets, key_itself}
 use Rattle.bdb_keep.proofs.RowsLemmas.{same_place}
 use Rattle.bdb_former.specs.Respelled.{IsRespelled, respelled, respelled_at, respelled_entry, respelled_place}
 use Rattle.bdb_former.specs.Laws.{NoOtherRowIsThere, RowsAreRespelled}
@@ -18,11 +19,8 @@ Entries = List (List ℕ × List ℕ)
 
 -- ---- respelled entries
 
-same_itself : (p : List ℕ) → eq_by_cmp bytes_cmp p p ≡ true
-same_itself p = (eq_by_cmp_equiv nat_list_cmp_total).refl p
-
 same_from : (p q : List ℕ) → p ≡ q → eq_by_cmp bytes_cmp p q ≡ true
-same_from p q e = ap (λ x. eq_by_cmp bytes_cmp p x) (sym e) ∙ same_itself p
+same_from p q e = ap (λ x. eq_by_cmp bytes_cmp p x) (sym e) ∙ key_itself p
 
 -- places are equal where the respelled ones are
 same_respelled : (p q : List ℕ) → eq_by_cmp bytes_cmp (respelled_place p) (respelled_place q) ≡ eq_by_cmp bytes_cmp p q
@@ -79,12 +77,6 @@ no_other_row_is_there t q row e =
 -- a row of the former tables, respelled
 pub row_respelled : (t : Tables) (p row : List ℕ) → tables.get t p ≡ Some row → tables.get (respelled t) (respelled_place p) ≡ Some (respelled_at p row)
 row_respelled t p row e = rows_are_respelled t p ∙ ap (option_map (respelled_at p)) e
-
--- two options are the same where each has what the other has
-same_option : (a b : Option (List ℕ)) → ((x : List ℕ) → a ≡ Some x → b ≡ Some x) → ((x : List ℕ) → b ≡ Some x → a ≡ Some x) → a ≡ b
-same_option None None f g = refl
-same_option None (Some y) f g = g y refl
-same_option (Some x) b f g = sym (f x refl)
 
 -- tables that have each row respelled, and no other, are the respelled ones
 pub respelled_by : (t u : Tables) → ((p row : List ℕ) → tables.get t p ≡ Some row → tables.get u (respelled_place p) ≡ Some (respelled_at p row))

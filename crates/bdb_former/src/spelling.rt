@@ -16,7 +16,7 @@ const FORMER: [u8; 4] = [0, 0, 0, 2];
 /// The number of this format.
 const FORMAT: u32 = 3;
 
-/// A key of a table.
+/// A key of a table of the format before this one, as this one spells it.
 #[tactic(auto, using(crate::proofs::SpellLemmas::key_as_it_is))]
 pub fn respelled_key(alloc: Global, tab: u8, key: &[u8]) -> Result<Vec<u8>, AllocError>
     ensures { IfOk result (λ spelled. spelled.items ≡ respelled_key tab key.now) }
@@ -42,7 +42,7 @@ fn with_count(alloc: Global, key: &[u8]) -> Result<Vec<u8>, AllocError>
     Ok(spelled)
 }
 
-/// A row of a table.
+/// A row of a table of the format before this one, as this one spells it.
 #[tactic(auto, using(crate::proofs::SpellLemmas::row_as_it_is))]
 pub fn respelled_row(alloc: Global, tab: u8, row: &[u8]) -> Result<Vec<u8>, AllocError>
     ensures { IfOk result (λ spelled. spelled.items ≡ respelled_row tab row.now) }

@@ -11,15 +11,17 @@ use Rattle.bdb_base.specs.SameLemmas.{same_path-Decides}
 use Rattle.bdb_base.specs.SortedSet.{ascending, is_member, put_in}
 use Rattle.bdb_base.specs.States.{deepest_suffix}
 use Rattle.bdb_base.proofs.SetLemmas.{put_adds_member, put_keeps_order}
+use Rattle.bdb_base.proofs.OptionLemmas.{same_some}
+use Rattle.bdb_base.proofs.Numbers.{eq_turned}
 use Rattle.bdb_key.specs.Grammar.{IsNum}
 use Rattle.bdb_paths.proofs.StateLemmas.{path_turned}
 use Rattle.bdb_paths.proofs.SuffixLemmas.{deepest_same}
 use Rattle.bdb_tables.specs.Names.{AreNames, is_named, leads_to}
-use Rattle.bdb_names.proofs.NameLemmas.{deep_number, same_some}
+use Rattle.bdb_names.proofs.NameLemmas.{deep_number}
 use Rattle.bdb_graph.specs.Naming.{names_of, number_in, path_in}
 use Rattle.bdb_graph.specs.States.{AreIndexed, ArePathsOf, IsWorldOf, is_world, number_of_world, target_of}
 use Rattle.bdb_graph.specs.declared.naming.NamedWorld.{NamedWorld}
-use Rattle.bdb_graph.proofs.NumberLemmas.{all_at, eq_turned, lt_differs}
+use Rattle.bdb_graph.proofs.NumberLemmas.{all_at, lt_differs}
 
 -- ---- lists
 

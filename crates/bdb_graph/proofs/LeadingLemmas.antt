@@ -5,6 +5,8 @@ use Rattle.std.specs.List.{AllByRecursion}
 use Rattle.std.specs.Option.{option_map}
 use Rattle.std.specs.FinMap as tables
 use Rattle.std.proofs.lemmas.Bool.{eqb-true, eqb-false}
+use Rattle.bdb_base.proofs.OptionLemmas.{none_is_some, same_some}
+use Rattle.bdb_base.proofs.AllLemmas.{all_weaker}
 use Rattle.bdb_keep.specs.Tables.{Tables}
 use Rattle.bdb_key.specs.Bytes.{num_bytes}
 use Rattle.bdb_key.specs.Grammar.{IsNum}
@@ -13,13 +15,12 @@ use Rattle.bdb_tables.specs.Codec.{HasRow, place}
 use Rattle.bdb_tables.specs.InUse.{edge_codec}
 use Rattle.bdb_tables.specs.Names.{Names, number_of, is_named, edge_of}
 use Rattle.bdb_tables.specs.States.{HoldsStates}
-use Rattle.bdb_tables.proofs.Held.{some_same, none_some}
 use Rattle.bdb_paths.proofs.SuffixLemmas.{deepest_of_member}
 use Rattle.bdb_names.proofs.Ends.{no_own_end}
 use Rattle.bdb_names.proofs.NameLemmas.{path_is_named, edge_at, edge_is}
 use Rattle.bdb_names.proofs.NamedLemmas.{user_of_end}
 use Rattle.bdb_entries.proofs.ReadLemmas.{past}
-use Rattle.bdb_entries.proofs.TupleLemmas.{all_from, holding}
+use Rattle.bdb_entries.proofs.TupleLemmas.{holding}
 use Rattle.bdb_graph.specs.Leading.{HasEdge, IsLed}
 use Rattle.bdb_graph.specs.Ups.{HasFront, TellsUp}
 use Rattle.bdb_graph.specs.declared.ups.Up.{Up}
@@ -31,11 +32,11 @@ edge_known t m i n (suc d) found fits deep row b e = subst (λ v. MatchBool v (H
   where
     by : (v : Bool) → nat_eq found n ≡ v → MatchBool v (HasEdge t m i n (suc d)) (HasEdge t m i n (suc d) → ⊥)
     by true s = row.found ∙ ap (λ k. Some (num_bytes k)) (eqb-true found n s)
-    by false s = λ h. eqb-false found n s (one_num found n row.in_grammar fits (some_same (num_bytes found) (num_bytes n) (sym row.found ∙ h)))
+    by false s = λ h. eqb-false found n s (one_num found n row.in_grammar fits (same_some (num_bytes found) (num_bytes n) (sym row.found ∙ h)))
 
 pub edge_missing : (t : Tables) (m i n d : ℕ) → (d ≡ 0 → ⊥) → tables.get t (place edge_codec (m, i)) ≡ None → HasEdge t m i n d → ⊥
 edge_missing t m i n zero deep e h = deep refl
-edge_missing t m i n (suc d) deep e h = none_some (num_bytes n) (sym e ∙ h)
+edge_missing t m i n (suc d) deep e h = none_is_some (num_bytes n) (sym e ∙ h)
 
 pub no_edge_needed : (t : Tables) (m i n d : ℕ) → d ≡ 0 → HasEdge t m i n d
 no_edge_needed t m i n zero e = tt
@@ -68,4 +69,4 @@ module _ (t : Tables) (users : ℕ → Bool) (ns : Names) (h : HoldsStates users
       h.tables.edge.rows (m, i) (record { first = h.names.sized v m (h.names.named m v front.1); second = h.numbers i user }) ∙ ap (option_map num_bytes) edge
 
   pub all_are_led : (ups : List Up) → AllByRecursion (TellsUp t) ups → AllByRecursion (IsLed t) ups
-  all_are_led ups tell = all_from (TellsUp t) (IsLed t) ups (λ x told. front_leads x.wid x.from x.uid x.depth (told users ns h)) tell
+  all_are_led ups tell = all_weaker (TellsUp t) (IsLed t) ups (λ x told. front_leads x.wid x.from x.uid x.depth (told users ns h)) tell

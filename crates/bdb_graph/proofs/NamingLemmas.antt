@@ -4,11 +4,13 @@ use Rattle.std.specs.List.{AllByRecursion, list_all}
 use Rattle.std.specs.Option.{option_map, option_and_then}
 use Rattle.std.specs.Ordering.{is_eq, is_lt, nat_cmp}
 use Rattle.std.proofs.lemmas.Bool.{and_parts, and_from, or_parts, cond-true, cond-false, eqb-true, eq-eqb}
-use Rattle.std.proofs.lemmas.List.{map-append, take_more}
+use Rattle.std.proofs.lemmas.List.{map-append, take_more, append-nil}
 use Rattle.std.proofs.lemmas.List.Folds.{list_all-append}
-use Rattle.std.proofs.lemmas.Bool.Decides.{nat_tests}
 use Rattle.bdb_base.specs.Alternation.{alternates}
 use Rattle.bdb_base.specs.SortedSet.{ascending, is_member}
+use Rattle.bdb_base.specs.OrderLemmas.{is_eq_nat_cmp}
+use Rattle.bdb_base.proofs.AllLemmas.{all_weaker}
+use Rattle.bdb_base.proofs.Numbers.{eq_turned}
 use Rattle.bdb_keep.specs.Tables.{Tables}
 use Rattle.bdb_key.specs.Grammar.{IsNum}
 use Rattle.bdb_tables.specs.InUse.{depth_codec}
@@ -24,13 +26,10 @@ use Rattle.bdb_graph.specs.Naming.{AreNamedUps, IsClimbed, IsNamedUp, TellNames,
 use Rattle.bdb_graph.specs.Ups.{AreUps, HasDepth, HasFront, HoldNoStates, TellsUp, depth_row}
 use Rattle.bdb_graph.specs.declared.naming.NamedWorld.{NamedWorld}
 use Rattle.bdb_graph.specs.declared.ups.Up.{Up}
-use Rattle.bdb_graph.proofs.NumberLemmas.{all_at, eq_turned, lt_differs}
+use Rattle.bdb_graph.proofs.NumberLemmas.{all_at, lt_differs}
 use Rattle.bdb_graph.proofs.UpLemmas.{path_deep, rows_have_depths}
 
 -- ---- the world of a number
-
-eq_cmp : (m n : ℕ) → is_eq (nat_cmp m n) ≡ nat_eq m n
-eq_cmp m n = grind (arith, nat_tests)
 
 pub up_found : (ups : List Up) (at n : ℕ) (other : Up) → ascending nat_cmp (map number_of_up ups) ≡ true → slice_get (map number_of_up ups) at ≡ Some n → Some (slice_index_or ups at other) ≡ up_in ups n
 up_found [] at n other a e = absurd cc
@@ -83,7 +82,7 @@ up_tells P (y ∷ xs) n x h e = by (nat_eq n y.wid) refl (λ f. up_tells P xs n 
 pub items_of_ups : (xs : List Up) (n : ℕ) → item_in depth_codec (map depth_row xs) n ≡ option_map (λ (x : Up). x.depth) (up_in xs n)
 items_of_ups [] n = refl
 items_of_ups (x ∷ xs) n =
-    ap (λ b. cond b (Some x.depth) (item_in depth_codec (map depth_row xs) n)) (eq_cmp n x.wid)
+    ap (λ b. cond b (Some x.depth) (item_in depth_codec (map depth_row xs) n)) (is_eq_nat_cmp n x.wid)
     ∙ ap (cond (nat_eq n x.wid) (Some x.depth)) (items_of_ups xs n)
     ∙ by (nat_eq n x.wid) (up_in xs n)
   where
@@ -94,14 +93,6 @@ items_of_ups (x ∷ xs) n =
 pub all_mapped : {X Y : Type 0} (f : X → Y) (P : Y → Type 0) (xs : List X) → AllByRecursion P (map f xs) → AllByRecursion (λ x. P (f x)) xs
 all_mapped f P [] h = tt
 all_mapped f P (x ∷ xs) h = (h.0, all_mapped f P xs h.1)
-
-all_made : {X : Type 0} (P Q : X → Type 0) (xs : List X) → ((x : X) → P x → Q x) → AllByRecursion P xs → AllByRecursion Q xs
-all_made P Q [] f h = tt
-all_made P Q (x ∷ xs) f h = (f x h.0, all_made P Q xs f h.1)
-
-pub append_none : (w : List ℕ) → w ++ [] ≡ w
-append_none [] = refl
-append_none (i ∷ w) = ap (λ (v : List ℕ). i ∷ v) (append_none w)
 
 pub paths_of_ups : (ups xs : List Up) (ws : List NamedWorld) → map named_as ws ≡ map (climbed_as ups) xs → (n : ℕ) → option_map (λ (w : List ℕ). Some w) (path_in ws n) ≡ option_map (λ (x : Up). climb ups x.depth x.wid []) (up_in xs n)
 paths_of_ups ups [] [] e n = refl
@@ -158,11 +149,11 @@ module _ (t : Tables) (users : ℕ → Bool) (ns : Names) (h : HoldsStates users
       climb_step ups d n back x u.1 ∙ climb_is d x.from v (x.uid ∷ back) (omega arith) front.1 ∙ ap Some (sym (append_assoc v (x.uid ∷ []) back)) ∙ ap (λ (y : List ℕ). Some (y ++ back)) (sym is)
 
   whole_climb : (n : ℕ) (w : List ℕ) (d : ℕ) → length w ≡ d → path_of ns n ≡ Some w → climb ups d n [] ≡ Some w
-  whole_climb n w d l e = climb_is d n w [] l e ∙ ap Some (append_none w)
+  whole_climb n w d l e = climb_is d n w [] l e ∙ ap Some (append-nil w)
 
   pub all_climbed : AllByRecursion (IsClimbed ups) ups
   all_climbed =
-      all_made (λ (x : Up). HasDepth t x.wid x.depth) (IsClimbed ups) ups
+      all_weaker (λ (x : Up). HasDepth t x.wid x.depth) (IsClimbed ups) ups
       (λ x has.
       let deep = path_deep t users ns h x.wid x.depth has in
       record { path = deep.0; climbed = whole_climb x.wid deep.0 x.depth deep.2 deep.1; apart = h.names.apart deep.0 (path_is_named ns h.names x.wid deep.0 deep.1) })

@@ -9,7 +9,7 @@ use Rattle.std.proofs.lemmas.Cmp.{nat_cmp_total}
 use Rattle.std.proofs.lemmas.List.{get_or-map, length-map}
 use Rattle.bdb_base.specs.SortedSet.{IsExactOrder, ascending}
 use Rattle.bdb_base.proofs.SetLemmas.{search_up, search_down, search_found}
-use Rattle.bdb_entries.proofs.TupleLemmas.{same_number}
+use Rattle.bdb_base.proofs.Numbers.{same_number}
 
 pub nat_exact : IsExactOrder nat_cmp
 nat_exact = record { total = nat_cmp_total; exact = λ x y e. same_number x y (ap is_eq e) }
@@ -40,9 +40,6 @@ module _ {X : Type 0} (f : X → ℕ) (xs : List X) (n : ℕ) where
 
 pub lt_differs : (m n : ℕ) → is_lt (nat_cmp m n) ≡ true → nat_eq n m ≡ false
 lt_differs m n e = grind (arith, nat_tests)
-
-pub eq_turned : (m n : ℕ) → is_eq (nat_cmp m n) ≡ nat_eq n m
-eq_turned m n = grind (arith, nat_tests)
 
 -- what holds of each number holds of the one at a place
 pub all_at : (p : ℕ → Bool) (xs : List ℕ) (at n : ℕ) → list_all p xs ≡ true → slice_get xs at ≡ Some n → p n ≡ true

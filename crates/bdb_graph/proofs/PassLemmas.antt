@@ -8,11 +8,12 @@ use Rattle.std.specs.Ordering.{eq_by_cmp}
 use Rattle.std.specs.FinMap as tables
 use Rattle.std.specs.FinMap.{find}
 use Rattle.std.proofs.lemmas.Bool.{cases_Bool, cond-false, eqb-true, eq-eqb, false≢true}
+use Rattle.bdb_base.proofs.OptionLemmas.{none_is_some, same_some}
 use Rattle.bdb_keep.specs.Tables.{Tables, bytes_cmp}
+use Rattle.bdb_keep.proofs.RowsLemmas.{same_place}
 use Rattle.bdb_key.proofs.Readings.{all_push}
 use Rattle.bdb_tables.specs.Codec.{Codec, HasAt, HasOneKey, HasOneRow, place}
 use Rattle.bdb_tables.specs.Spans.{IsNextUnder, IsUnder, NoneUnder, entry_bytes}
-use Rattle.bdb_tables.proofs.Held.{none_some, same_place, some_same}
 use Rattle.bdb_tables.proofs.SpanLemmas.{Covers, covers_all, covers_more, covers_none}
 use Rattle.bdb_entries.proofs.ReadLemmas.{none_told, some_told}
 use Rattle.bdb_graph.specs.States.{AllKeysPass, GivesAt, HasNextKey, TellsKey, is_right}
@@ -36,9 +37,9 @@ module _ {Key : Type 0} (c : Codec Key ℕ) (one : HasOneRow c) (t : Tables) (k 
 
   same_found : (found right : Option ℕ) → HasAt c t k found → MatchOption right (Unit {0}) c.IsRow → tables.get t (place c k) ≡ option_map c.row_bytes right → found ≡ right
   same_found None None h fits e = refl
-  same_found None (Some n) h fits e = absurd (none_some (c.row_bytes n) (sym h ∙ e))
-  same_found (Some m) None h fits e = absurd (none_some (c.row_bytes m) (sym e ∙ h.found))
-  same_found (Some m) (Some n) h fits e = ap Some (one m n h.in_grammar fits (some_same (c.row_bytes m) (c.row_bytes n) (sym h.found ∙ e)))
+  same_found None (Some n) h fits e = absurd (none_is_some (c.row_bytes n) (sym h ∙ e))
+  same_found (Some m) None h fits e = absurd (none_is_some (c.row_bytes m) (sym e ∙ h.found))
+  same_found (Some m) (Some n) h fits e = ap Some (one m n h.in_grammar fits (same_some (c.row_bytes m) (c.row_bytes n) (sym h.found ∙ e)))
 
   -- a row is what a function gives where it is what was found
   pub row_told : (f : Key → Option ℕ) (found right : Option ℕ) (b : Bool) → HasAt c t k found → f k ≡ right → MatchOption right (Unit {0}) c.IsRow → b ≡ is_right found right

@@ -6,8 +6,10 @@ use Rattle.std.specs.Option.{option_map}
 use Rattle.std.specs.Ordering.{eq_by_cmp, is_le}
 use Rattle.std.specs.FinMap as tables
 use Rattle.std.proofs.lemmas.Bool.{cases_Bool, false≢true, eqb-true, eqb-false, eq-eqb}
+use Rattle.bdb_base.proofs.OptionLemmas.{none_is_some, same_some}
 use Rattle.bdb_keep.specs.Tables.{Tables, IsLeastFrom, NoneFrom, bytes_cmp}
 use Rattle.bdb_keep.proofs.Scans.{between_keys}
+use Rattle.bdb_keep.proofs.RowsLemmas.{same_place}
 use Rattle.bdb_key.specs.Bytes.{num_bytes}
 use Rattle.bdb_key.specs.Grammar.{IsNum}
 use Rattle.bdb_key.proofs.Alone.{one_num}
@@ -18,7 +20,7 @@ use Rattle.bdb_tables.specs.InUseLaws.{number_rows_are_one}
 use Rattle.bdb_tables.specs.Names.{Names, leads_to}
 use Rattle.bdb_tables.specs.States.{HoldsStates, row_where}
 use Rattle.bdb_tables.specs.Writes.{Gives}
-use Rattle.bdb_tables.proofs.Held.{same_place, some_same, none_some}
+use Rattle.bdb_tables.proofs.Held.{leads_is}
 use Rattle.bdb_entries.proofs.ReadLemmas.{past}
 use Rattle.bdb_entries.proofs.TupleLemmas.{given_is, holding}
 use Rattle.bdb_graph.specs.Turning.{AreTurned, BothTurned, HasTurned, IsStep, TurnRound}
@@ -46,13 +48,13 @@ below_more t u tab way other low behind key row same step here h k r found under
   where
     by : (b : Bool) → eq_by_cmp bytes_cmp k key ≡ b → cond (eq_by_cmp bytes_cmp k key) (Some row) None ≡ Some r → HasTurned t way other k r
     by true e f =
-        let is : row ≡ r = some_same row r (sym (ap (λ b. cond b (Some row) None) e) ∙ f) in
+        let is : row ≡ r = same_some row r (sym (ap (λ b. cond b (Some row) None) e) ∙ f) in
         subst (HasTurned t way other k) is (subst (λ x. HasTurned t way other x row) (sym (same_place k key e)) here)
-    by false e f = absurd (none_some r (sym (ap (λ b. cond b (Some row) None) e) ∙ f))
+    by false e f = absurd (none_is_some r (sym (ap (λ b. cond b (Some row) None) e) ∙ f))
 
 pub below_all : (t u : Tables) (tab : ℕ) (way : Way) (other : ℕ) (low : List ℕ) → u ≡ t → NoneFrom u tab low → TurnedBelow t tab way other low → AreTurned t tab way other
 below_all t u tab way other low same none h k r found = elim (cases_Bool (is_le (bytes_cmp low k))) [
-  | inl from ↦ absurd (none_some r (sym (subst (λ v. NoneFrom v tab low) same none k from) ∙ found))
+  | inl from ↦ absurd (none_is_some r (sym (subst (λ v. NoneFrom v tab low) same none k from) ∙ found))
   | inr less ↦ h k r found less
 ]
 
@@ -77,17 +79,13 @@ not_round t tab other a e h both = past (AreTurned t tab Round other) (AreTurned
 
 -- ---- numbers that lead to others
 
-leads_is : (o : Option ℕ) (n : ℕ) → leads_to o n ≡ true → o ≡ Some n
-leads_is None n h = absurd (false≢true h)
-leads_is (Some m) n h = ap Some (eqb-true m n h)
-
 -- a row without content
 abbrev blank : Unit {0} → List ℕ
 blank u = []
 
 row_is : (b : Bool) (r : List ℕ) → option_map blank (row_where b) ≡ Some r → (b ≡ true) × (r ≡ [])
-row_is true r e = (refl, sym (some_same [] r e))
-row_is false r e = absurd (none_some r e)
+row_is true r e = (refl, sym (same_some [] r e))
+row_is false r e = absurd (none_is_some r e)
 
 row_fits : (b : Bool) → MatchOption (row_where b) (Unit {0}) (λ u. Unit {0})
 row_fits true = tt
@@ -97,10 +95,10 @@ row_fits false = tt
 row_turned : (there : Option (List ℕ)) (from : Option (List ℕ)) (o : Option ℕ) (x : ℕ) → IsNum x → MatchOption o (Unit {0}) IsNum → from ≡ option_map num_bytes o
     → (from ≡ Some (num_bytes x) → there ≡ Some []) → ((r : List ℕ) → there ≡ Some r → from ≡ Some (num_bytes x)) → there ≡ option_map blank (row_where (leads_to o x))
 row_turned None from None x fx fo e to back = refl
-row_turned (Some r) from None x fx fo e to back = absurd (none_some (num_bytes x) (sym e ∙ back r refl))
+row_turned (Some r) from None x fx fo e to back = absurd (none_is_some (num_bytes x) (sym e ∙ back r refl))
 row_turned there from (Some y) x fx fo e to back = elim (cases_Bool (nat_eq y x)) [
   | inl s ↦ to (e ∙ ap (λ n. Some (num_bytes n)) (eqb-true y x s)) ∙ sym (ap (λ b. option_map blank (row_where b)) s)
-  | inr s ↦ none there refl (λ r f. eqb-false y x s (one_num y x fo fx (some_same (num_bytes y) (num_bytes x) (sym e ∙ back r f)))) ∙ sym (ap (λ b. option_map blank (row_where b)) s)
+  | inr s ↦ none there refl (λ r f. eqb-false y x s (one_num y x fo fx (same_some (num_bytes y) (num_bytes x) (sym e ∙ back r f)))) ∙ sym (ap (λ b. option_map blank (row_where b)) s)
 ]
   where
     none : (p : Option (List ℕ)) → there ≡ p → ((r : List ℕ) → there ≡ Some r → ⊥) → there ≡ None

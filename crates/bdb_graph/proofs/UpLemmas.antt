@@ -1,5 +1,5 @@
 -- From which world each world comes.
-use Rattle.std.proofs.Common.{◌≡◌, ◌∙◌, ℕ, zero, suc, ◌+◌, ◌<◌, Bool, true, false, cond, nat_eq, List, [], ◌∷◌, ◌++◌, length, map, take, Ok, get_or, append_assoc, Option, Some, None, refl, ap, sym, subst, inl, inr, arith}
+use Rattle.std.proofs.Common.{◌≡◌, ◌∙◌, ℕ, zero, suc, ◌+◌, ◌<◌, Bool, true, false, cond, nat_eq, List, [], ◌∷◌, ◌++◌, length, map, take, get_or, append_assoc, Option, Some, None, refl, ap, sym, subst, inl, inr, arith}
 use Rattle.std.specs.Prelude.{MatchOption}
 use Rattle.std.specs.Bool.{MatchBool}
 use Rattle.std.specs.List.{AllByRecursion}
@@ -9,14 +9,14 @@ use Rattle.std.specs.FinMap as tables
 use Rattle.std.specs.FinMap.{find}
 use Rattle.std.proofs.lemmas.Bool.{cases_Bool, eqb-true, eqb-false}
 use Rattle.std.proofs.lemmas.List.{map-append, take_more}
-use Rattle.bdb_base.specs.SameLemmas.{same_path-Decides}
 use Rattle.bdb_base.specs.Segments.{is_prefix}
-use Rattle.bdb_base.proofs.SegmentLemmas.{is_prefix_begins}
-use Rattle.bdb_keep.specs.Seen.{Seen}
+use Rattle.bdb_base.proofs.OptionLemmas.{none_is_some, same_some}
+use Rattle.bdb_base.proofs.AllLemmas.{all_both}
 use Rattle.bdb_keep.specs.Tables.{Tables, bytes_cmp}
+use Rattle.bdb_keep.proofs.RowsLemmas.{same_place}
 use Rattle.bdb_key.specs.Bytes.{num_bytes}
 use Rattle.bdb_key.specs.Grammar.{IsNum}
-use Rattle.bdb_key.proofs.Alone.{one_num}
+use Rattle.bdb_key.proofs.Alone.{one_num, number_begins}
 use Rattle.bdb_key.proofs.Readings.{all_push}
 use Rattle.bdb_tables.specs.Codec.{Codec, HasRow, place}
 use Rattle.bdb_tables.specs.InUse.{depth_codec, led_codec, triple_bytes}
@@ -24,14 +24,11 @@ use Rattle.bdb_tables.specs.InUseLaws.{number_rows_are_one, triples_are_one}
 use Rattle.bdb_tables.specs.Names.{Names, path_of, depth_of}
 use Rattle.bdb_tables.specs.Spans.{AreUnder, IsUnder, entry_bytes}
 use Rattle.bdb_tables.specs.States.{HoldsStates, IsNamed, root, next}
-use Rattle.bdb_tables.specs.Reading.{OnlyReads}
-use Rattle.bdb_tables.proofs.Held.{same_place, some_same, none_some}
-use Rattle.bdb_tables.proofs.Loops.{IsReading, goes_then, counts_then}
 use Rattle.bdb_tables.proofs.ListLemmas.{prefix_append}
 use Rattle.bdb_names.proofs.NamedLemmas.{named_path, path_is_told}
 use Rattle.bdb_entries.proofs.ListedLemmas.{all_found}
 use Rattle.bdb_entries.proofs.ReadLemmas.{past}
-use Rattle.bdb_entries.proofs.TupleLemmas.{all_both, given_is, holding}
+use Rattle.bdb_entries.proofs.TupleLemmas.{given_is, holding}
 use Rattle.bdb_graph.specs.Ups.{AreUps, HasDepth, HasFront, HasStart, HoldNoStates, IsParent, IsUp, Led, LeadsTo, NoParent, StartsAt, StartsElsewhere, TellsUp, depth_row, parent_in}
 use Rattle.bdb_graph.specs.declared.ups.Up.{Up}
 
@@ -41,7 +38,7 @@ module _ {Key Row : Type 0} (c : Codec Key Row) (prefix : List ℕ) where
   -- what holds of each entry holds of one that is found
   found_tells : (Q : Key × Row → Type 0) (es : List (Key × Row)) → AllByRecursion (IsUnder c prefix) es → AllByRecursion Q es → (k r : List ℕ)
       → find bytes_cmp k (map (entry_bytes c) es) ≡ Some r → (e : Key × Row) × c.IsKey e.0 × (c.key_bytes e.0 ≡ k) × Q e
-  found_tells Q [] h q k r found = absurd (none_some r found)
+  found_tells Q [] h q k r found = absurd (none_is_some r found)
   found_tells Q (e ∷ es) h q k r found = elim (cases_Bool (eq_by_cmp bytes_cmp k (c.key_bytes e.0))) [
     | inl same ↦ (e, h.0.key, sym (same_place k (c.key_bytes e.0) same), q.0)
     | inr other ↦ found_tells Q es h.1 q.1 k r (sym (ap (λ b. cond b (Some (c.row_bytes e.1)) (find bytes_cmp k (map (entry_bytes c) es))) other) ∙ found)
@@ -56,11 +53,6 @@ module _ {Key Row : Type 0} (c : Codec Key Row) (prefix : List ℕ) where
       there [] u f = tt
       there (d ∷ ds) u f = (h.found (c.key_bytes d.0) u.0.begins ∙ f.0, there ds u.1 f.1)
 
--- ---- keys that begin with a number
-
-number_begins : (n a : ℕ) (rest : List ℕ) → IsNum n → IsNum a → is_prefix (num_bytes n) (num_bytes a ++ rest) ≡ true → a ≡ n
-number_begins n a rest fn fa e = one_num a n fa fn (sym ((same_path-Decides (num_bytes n) (num_bytes a)).0 (sym (is_prefix_begins (num_bytes n) (num_bytes a ++ rest)) ∙ e)))
-
 -- ---- depths
 
 pub rows_have_depths : (t : Tables) (es : List (ℕ × ℕ)) → AreUnder depth_codec t [] es → AllByRecursion (λ e. HasDepth t e.0 e.1) es
@@ -70,7 +62,7 @@ rows_have_depths t es h =
 
 -- a world has one depth
 pub one_depth : (t : Tables) (n d e : ℕ) → HasDepth t n d → HasDepth t n e → d ≡ e
-one_depth t n d e h k = one_num d e h.size k.size (some_same (num_bytes d) (num_bytes e) (sym h.found ∙ k.found))
+one_depth t n d e h k = one_num d e h.size k.size (same_some (num_bytes d) (num_bytes e) (sym h.found ∙ k.found))
 
 pub depth_known : (t : Tables) (n d found : ℕ) → IsNum n → IsNum d → HasRow depth_codec t n found → (b : Bool) → b ≡ nat_eq found d → MatchBool b (HasDepth t n d) (HasDepth t n d → ⊥)
 depth_known t n d found fn fd row b e = subst (λ v. MatchBool v (HasDepth t n d) (HasDepth t n d → ⊥)) (sym e) (by (nat_eq found d) refl)
@@ -83,7 +75,7 @@ depth_known t n d found fn fd row b e = subst (λ v. MatchBool v (HasDepth t n d
     by false s = λ h. eqb-false found d s (one_depth t n found d has h)
 
 pub depth_missing : (t : Tables) (n d : ℕ) → tables.get t (place depth_codec n) ≡ None → HasDepth t n d → ⊥
-depth_missing t n d e h = none_some (num_bytes d) (sym e ∙ h.found)
+depth_missing t n d e h = none_is_some (num_bytes d) (sym e ∙ h.found)
 
 -- ---- edges that lead to a world
 
@@ -198,16 +190,6 @@ starts_here t u n d fits rows k other start b l same is good told h =
     let has = holding (HasDepth u start.0 d) (HasDepth u start.0 d → ⊥) b good told in
     let e = get_or rows k other in
     subst (IsParent t n d) (sym is) (leads_from t n d fits e (all_get (LeadsTo t n) rows k other l h) (subst (λ (p : ℕ × ℕ). HasDepth t p.0 d) is (subst (λ v. HasDepth v start.0 d) same has)))
-
--- calls that only read, one more
-pub only_reads_more : {P T E Q : Type 0} (old a b : Seen) (x : T) (fault : E) → IsReading old a P → OnlyReads {T = T} {E = E} a b (Ok x) fault → Q → IsReading old b Q
-only_reads_more old a b x fault h r q = record {
-  goes = goes_then old a b h.goes r.steps.ok;
-  kept = r.kept ∙ h.kept;
-  writes = r.writes ∙ h.writes;
-  counts = counts_then old a b h.counts r.counts;
-  read = q;
-}
 
 pub ups_more : (t : Tables) (rows : List (ℕ × ℕ)) (k : ℕ) (other row : ℕ × ℕ) (ups after : List Up) (x : Up) → k < length rows → row ≡ get_or rows k other
     → AreUps t (take k rows) ups → IsUp t row x → after ≡ ups ++ x ∷ [] → AreUps t (take (k + 1) rows) after

@@ -7,10 +7,12 @@ use Rattle.std.specs.Ordering.{is_lt, nat_cmp}
 use Rattle.std.specs.FinMap as tables
 use Rattle.std.proofs.lemmas.Bool.{and_parts, and_from, or_cases, or_parts, or_from, or_left, or_right, leb-true, le-leb, not-true, cond-true, cond-false, eqb-true, eq-eqb, cases_Bool, false≢true}
 use Rattle.std.proofs.lemmas.Bool.Decides.{nat_tests}
+use Rattle.std.proofs.lemmas.List.{append-nil}
 use Rattle.bdb_base.specs.Alternation.{alternates}
 use Rattle.bdb_base.specs.Same.{same_path}
 use Rattle.bdb_base.specs.SameLemmas.{same_path-Decides}
 use Rattle.bdb_base.specs.SortedSet.{ascending}
+use Rattle.bdb_base.proofs.OptionLemmas.{same_some}
 use Rattle.bdb_keep.specs.Tables.{Tables}
 use Rattle.bdb_key.specs.Bytes.{num_bytes}
 use Rattle.bdb_key.specs.Grammar.{IsNum}
@@ -22,10 +24,8 @@ use Rattle.bdb_tables.specs.States.{HoldsStates}
 use Rattle.bdb_tables.specs.Names.{Names, AreNames, is_listed, are_once, depth_of, most_numbered}
 use Rattle.bdb_tables.specs.Spans.{AreUnder}
 use Rattle.bdb_tables.specs.Writes.{Gives}
-use Rattle.bdb_tables.proofs.Held.{some_same}
 use Rattle.bdb_names.proofs.Ends.{length_more, one_more}
 use Rattle.bdb_names.proofs.NamedLemmas.{cases_end}
-use Rattle.bdb_names.proofs.NameLemmas.{same_some}
 use Rattle.bdb_entries.proofs.TupleLemmas.{given_is, item_in, items_give}
 use Rattle.bdb_graph.specs.Leading.{AreLedUps, HasEdge, IsLed, has_root}
 use Rattle.bdb_graph.specs.Naming.{AreNamedUps, AreWorlds, IsClimbed, climb, climbed_as, named_as, names_of, number_in, number_of_up, path_in, up_in}
@@ -33,7 +33,7 @@ use Rattle.bdb_graph.specs.Ups.{AreUps, HasDepth, HasStart, HoldNoStates, Starts
 use Rattle.bdb_graph.specs.declared.naming.NamedWorld.{NamedWorld}
 use Rattle.bdb_graph.specs.declared.ups.Up.{Up}
 use Rattle.bdb_graph.proofs.LeadingLemmas.{all_are_led}
-use Rattle.bdb_graph.proofs.NamingLemmas.{all_mapped, append_none, items_of_ups, names_known, no_names, numbers_kept, paths_of_ups, up_of_path, up_tells, ups_ascend}
+use Rattle.bdb_graph.proofs.NamingLemmas.{all_mapped, items_of_ups, names_known, no_names, numbers_kept, paths_of_ups, up_of_path, up_tells, ups_ascend}
 use Rattle.bdb_graph.proofs.UpLemmas.{path_deep, rows_have_depths}
 
 -- ---- the way from world 0, step by step
@@ -256,7 +256,7 @@ module _ (t : Tables) (depths : List (ℕ × ℕ)) (ups : List Up) (under : AreU
         let k = ap length u.2 in
         let k2 = length_more u.0 u.1 in
         let from = one_number fuel u.0 a.from b.from (omega arith) a.path b.path in
-        let both : num_bytes n ≡ num_bytes m = some_same (num_bytes n) (num_bytes m) (sym a.edge ∙ ap (λ x. tables.get t (place edge_codec (x, u.1))) from ∙ b.edge) in
+        let both : num_bytes n ≡ num_bytes m = same_some (num_bytes n) (num_bytes m) (sym a.edge ∙ ap (λ x. tables.get t (place edge_codec (x, u.1))) from ∙ b.edge) in
         one_num n m (own_depth n w e).number (own_depth m w f).number both
   ]
 
@@ -274,10 +274,10 @@ module _ (t : Tables) (depths : List (ℕ × ℕ)) (ups : List Up) (under : AreU
         by (Some n) e f = (n, path_of_number ws sorted w n e)
 
     prefixes : (fuel : ℕ) (p q : List ℕ) → length q ≤ fuel → is_some (number_in ws (p ++ q)) ≡ true → is_some (number_in ws p) ≡ true
-    prefixes zero p [] l h = ap (λ w. is_some (number_in ws w)) (sym (append_none p)) ∙ h
+    prefixes zero p [] l h = ap (λ w. is_some (number_in ws w)) (sym (append-nil p)) ∙ h
     prefixes zero p (j ∷ q) l h = absurd (omega arith)
     prefixes (suc fuel) p q l h = elim (cases_end q) as (λ _. is_some (number_in ws p) ≡ true) [
-      | inl none ↦ ap (λ w. is_some (number_in ws w)) (sym (append_none p) ∙ ap (λ w. p ++ w) (sym none)) ∙ h
+      | inl none ↦ ap (λ w. is_some (number_in ws w)) (sym (append-nil p) ∙ ap (λ w. p ++ w) (sym none)) ∙ h
       | inr u ↦
           let k = ap length u.2 in
           let k2 = length_more u.0 u.1 in

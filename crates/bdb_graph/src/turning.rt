@@ -9,9 +9,9 @@ ghost use Rattle.bdb_tables.specs.Reading.{OnlyReads};
 ghost use Rattle.bdb_graph.specs.Turning.{AreTurned, BothTurned, HasTurned, IsStep, TurnRound, turned};
 ghost use Rattle.bdb_graph.specs.Ups.{HoldNoStates};
 
-use bdb_entries::{are_same, told};
+use bdb_entries::are_same;
 use bdb_keep::Keeper;
-use bdb_tables::TabError;
+use bdb_tables::{TabError, table_error};
 use std::alloc::{AllocError, Global};
 
 /// Which way a row is turned round.
@@ -119,7 +119,7 @@ fn step<K: Keeper>(
     match keeper.next(tab, low, key, row) {
         Ok(true) => {}
         Ok(false) => return Ok(false),
-        Err(error) => return Err(told(error)),
+        Err(error) => return Err(table_error(error)),
     }
     if set_behind(key, low).is_err() {
         keeper.undo();
@@ -163,7 +163,7 @@ fn is_turned<K: Keeper>(
     match keeper.get(tab, &place, &mut found) {
         Ok(true) => Ok(are_same(&found, &content)),
         Ok(false) => Ok(false),
-        Err(error) => Err(told(error)),
+        Err(error) => Err(table_error(error)),
     }
 }
 

@@ -1,5 +1,5 @@
 -- What tables have at a place after a row was put or taken away. Crates above name these lemmas at their functions.
-use Rattle.std.proofs.Common.{◌≡◌, ℕ, cond, List, Some, None, ap, ◌∙◌}
+use Rattle.std.proofs.Common.{◌≡◌, ℕ, cond, List, Some, None, ap, ◌∙◌, true}
 use Rattle.std.specs.Ordering.{eq_by_cmp}
 use Rattle.std.specs.FinMap as map
 use Rattle.std.specs.FinMap.{get-empty, get-insert, get-remove}
@@ -30,3 +30,6 @@ get_gone t p = get-remove nat_list_cmp_total t p p ∙ ap (λ b. cond b None (ma
 -- two tables that have the same at each place are the same
 pub tables_from_gets : (t u : Tables) → ((q : List ℕ) → map.get t q ≡ map.get u q) → t ≡ u
 tables_from_gets = same_tables
+
+pub key_itself : (p : List ℕ) → eq_by_cmp bytes_cmp p p ≡ true
+key_itself p = (eq_by_cmp_equiv nat_list_cmp_total).refl p

@@ -4,9 +4,7 @@ use Rattle.std.specs.Ordering.{eq_by_cmp}
 use Rattle.std.specs.FinMap as map
 use Rattle.std.specs.Prelude.{is_some}
 use mathlib.Core.Bool.{true≢false}
-use Rattle.bdb_keep.specs.Seen.{Seen}
 use Rattle.bdb_keep.specs.Tables.{IsPlace, LieInTables, Tables, bytes_cmp}
-use Rattle.bdb_keep.specs.Told.{IsSound}
 use Rattle.bdb_keep.proofs.Gets.{get_empty, get_after_insert, get_after_remove}
 use Rattle.bdb_keep.proofs.RowsLemmas.{same_place}
 
@@ -29,7 +27,3 @@ rest_lie t p lie q r e = there (eq_by_cmp bytes_cmp q p) (sym (get_after_remove 
     there : (b : Bool) → cond b None (map.get t q) ≡ Some r → IsPlace q
     there true found = absurd (true≢false (sym (ap is_some found)))
     there false found = lie q r found
-
--- a ledger is sound whose rows are these and were last committed as those
-pub sound_by : (s : Seen) (t u : Tables) → s.kept ≡ t → s.last ≡ u → LieInTables t → LieInTables u → (s.running ≡ false → s.kept ≡ s.last) → IsSound s
-sound_by s t u kept last a b rest = record { rest = rest; kept = subst LieInTables (sym kept) a; last = subst LieInTables (sym last) b }

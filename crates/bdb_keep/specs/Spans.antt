@@ -1,15 +1,13 @@
 -- Rows that are read or written at once: those of a table whose keys begin with some bytes, and those of a list.
-use Rattle.std.specs.Prelude.{◌≡◌, ℕ, zero, suc, ◌+◌, ◌≤◌, ◌⊎◌, true, false, cond, IsTrue}
-use Rattle.std.specs.Prelude.{List, [], ◌∷◌, ◌++◌, take, drop, Option, Some, None}
+use Rattle.std.specs.Prelude.{◌≡◌, ℕ, zero, suc, ◌+◌, ◌≤◌, true}
+use Rattle.std.specs.Prelude.{List, [], ◌∷◌, ◌++◌, take, drop}
 use Rattle.std.specs.List.{AllByRecursion, slice_range}
 use Rattle.std.specs.declared.cmp.Ordering.{Ordering}
-use Rattle.std.specs.Ordering.{is_le}
 use Rattle.std.specs.FinMap as map
 use Rattle.std.specs.FinMap.{find}
 use Rattle.bdb_base.specs.Segments.{is_prefix}
 use Rattle.bdb_base.specs.SortedSet.{ascending}
 use Rattle.bdb_keep.specs.Tables.{Tables, bytes_cmp}
-use Rattle.bdb_keep.specs.Entries.{Entries}
 use Rattle.bdb_keep.specs.declared.span.Cut.{Cut}
 
 -- keys, each with its row
@@ -55,21 +53,6 @@ abbrev pub with_ends : List ℕ → List ℕ → Listed → ℕ → Listed
 with_ends front row [] i = []
 with_ends front row (r ∷ rows) zero = (front ++ drop 4 r.0, row) ∷ rows
 with_ends front row (r ∷ rows) (suc i) = r ∷ with_ends front row rows i
-
--- the row of an entry whose place begins so: the table's number isn't part of the key
-abbrev pub row_under : List ℕ → List ℕ → Option (List ℕ) → Listed
-row_under p place None = []
-row_under p place (Some row) = cond (is_prefix p place) ((drop 1 place, row) ∷ []) []
-
--- the rows of the entries whose places begin so
-abbrev pub entries_under : List ℕ → Entries → Listed
-entries_under p [] = []
-entries_under p (e ∷ es) = row_under p e.0 e.1 ++ entries_under p es
-
--- among some entries there is one above the places that begin so
-abbrev pub HasPast : List ℕ → Entries → Type 0
-HasPast p [] = ⊥
-HasPast p (e ∷ es) = (IsTrue (is_le (bytes_cmp p e.0)) × (is_prefix p e.0 ≡ false)) ⊎ HasPast p es
 
 -- a table with these rows put, one after the other
 abbrev pub with_rows : ℕ → Tables → Listed → Tables

@@ -3,7 +3,6 @@ ghost use Rattle.std.specs.Prelude.{◌≡◌, ◌+◌, ◌<◌, ◌≤◌, ◌�
 ghost use Rattle.std.specs.List.{slice_range};
 ghost use Rattle.bdb_keep.specs.Spans.{IsWithin, with_ends, with_four};
 
-use crate::entry::Entry;
 use std::alloc::{AllocError, Global};
 use std::marker::Model;
 
@@ -60,6 +59,19 @@ impl Model for Span {
     ghost invariant = { λ s. AreCuts 0 (length s.bytes.items) s.cuts.items };
 }
 
+/// What has a key that it can append to bytes.
+pub trait AppendKey {
+    ghost use Rattle.std.specs.Prelude.{◌≡◌, ℕ, List, ◌++◌, OnOk, length, take};
+
+    // the key
+    ghost key: { Self → List ℕ };
+
+    /// Appends the key. What stood there before stays, also where memory runs out.
+    fn append_key(&self, bytes: &mut Vec<u8>) -> Result<(), AllocError>
+        ensures ok { OnOk result (bytes.new.items ≡ bytes.old.items ++ key self.now) }
+        ensures front { take (length bytes.old.items) bytes.new.items ≡ bytes.old.items };
+}
+
 impl Span {
     /// No rows. It takes no memory.
     pub fn new(alloc: Global) -> Self
@@ -97,7 +109,7 @@ impl Span {
         (cut.key(&self.bytes), cut.row(&self.bytes))
     }
 
-    /// Puts a row behind the others. Where memory is wanting, no clause says which rows there are.
+    /// Puts a row behind the others. Where memory runs out, no clause says which rows there are.
     pub fn push(&mut self, key: &[u8], row: &[u8]) -> Result<(), AllocError>
         ensures { OnOk result (self.new ≡ self.old ++ (key.now, row.now) ∷ []) }
     {
@@ -136,10 +148,10 @@ impl Span {
         Ok(())
     }
 
-    /// Puts the key of an entry behind the others, with a row.
+    /// Puts the key of an entry behind the others, with a row. Where memory runs out, no clause says which rows there are.
     #[inline(always)]
-    pub fn push_entry(&mut self, entry: &Entry, row: &[u8]) -> Result<(), AllocError>
-        ensures { OnOk result (self.new ≡ self.old ++ (drop 1 entry.now.0, row.now) ∷ []) }
+    pub fn push_entry<K: AppendKey>(&mut self, entry: &K, row: &[u8]) -> Result<(), AllocError>
+        ensures { OnOk result (self.new ≡ self.old ++ (K.key entry.now, row.now) ∷ []) }
     {
         let start = self.bytes.len();
         entry.append_key(&mut self.bytes)?;

@@ -1,5 +1,5 @@
 -- The bytes of values, of lists of values and of paths compare as what they spell does.
-use Rattle.std.proofs.Common.{◌≡◌, ℕ, ℤ, pos, negsuc, ◌+◌, ◌-◌, ◌^◌, ◌<◌, ◌≤◌, true, length, List, [], ◌∷◌, ◌++◌, refl, sym, ap, ◌∙◌, arith, inl, inr}
+use Rattle.std.proofs.Common.{◌≡◌, ℕ, ℤ, pos, negsuc, ◌+◌, ◌-◌, ◌^◌, ◌<◌, ◌≤◌, true, length, List, [], ◌∷◌, ◌++◌, refl, sym, ap, ◌∙◌, arith, inl, inr, zero, suc, take}
 use Rattle.std.specs.Prelude.{nat_le, FitsSigned}
 use Rattle.std.specs.declared.cmp.Ordering.{Ordering}
 use Rattle.std.specs.Ordering.{nat_cmp, int_cmp, ordering_then}
@@ -37,7 +37,7 @@ raised_cmp (pos m) (negsuc n) fm fn = greater (m + 2 ^ 63) (2 ^ 63 - 1 - n) (ome
 raised_cmp (negsuc m) (pos n) fm fn = less (2 ^ 63 - 1 - m) (n + 2 ^ 63) (omega arith)
 raised_cmp (negsuc m) (negsuc n) fm fn = flipped (2 ^ 63 - 1) m n (omega (arith, fm.sfits)) (omega (arith, fn.sfits))
 
-raised_lt : (m : ℤ) → FitsSigned w64 m → raised m < 2 ^ 64
+pub raised_lt : (m : ℤ) → FitsSigned w64 m → raised m < 2 ^ 64
 raised_lt (pos m) f = omega (arith, f.sfits)
 raised_lt (negsuc m) f = omega arith
 
@@ -140,3 +140,12 @@ lists_tie a b e = rows_tie a b (both_equal (nat_cmp (length a) (length b)) (row_
 
 pub paths_tie : IsAntisymmetric path_cmp
 paths_tie p q e = slice_cmp-IsAntisymmetric nat_cmp-IsAntisymmetric p q (both_equal (nat_cmp (length p) (length q)) (slice_cmp nat_cmp p q) e).1
+
+pub take_plain : (n : ℕ) (vs : List Value) → ArePlain vs → ArePlain (take n vs)
+take_plain zero vs a = tt
+take_plain (suc n) [] a = tt
+take_plain (suc n) (v ∷ vs) a = (a.0, take_plain n vs a.1)
+
+pub values_append : (xs ys : List Value) → values_bytes (xs ++ ys) ≡ values_bytes xs ++ values_bytes ys
+values_append [] ys = refl
+values_append (x ∷ xs) ys = ap (λ (r : List ℕ). value_bytes x ++ r) (values_append xs ys) ∙ sym (append_assoc (value_bytes x) (values_bytes xs) (values_bytes ys))

@@ -1,27 +1,29 @@
 -- The edges that lead to worlds, followed from the last user of a path to the first.
-use Rattle.std.proofs.Common.{◌≡◌, ◌∙◌, ℕ, suc, ◌-◌, ◌<◌, Bool, true, false, List, [], ◌∷◌, ◌++◌, length, Option, Some, None, is_some, refl, ap, sym, subst, inl, inr, arith, append_assoc, length-append}
+use Rattle.std.proofs.Common.{◌≡◌, ◌∙◌, ℕ, suc, ◌-◌, ◌<◌, Bool, true, false, List, [], ◌∷◌, ◌++◌, length, Some, None, is_some, ap, sym, subst, inl, inr, arith, append_assoc, length-append}
 use Prim.Native.Nat.{zero}
 use Rattle.std.specs.FinMap as tables
-use Rattle.std.specs.Option.{option_map}
 use Rattle.std.specs.Ordering.{is_le, nat_cmp, ordering_then}
 use Rattle.std.specs.declared.cmp.Ordering.TheVariants.{Less}
-use Rattle.std.proofs.lemmas.Bool.{eqb-true, false≢true}
+use Rattle.std.proofs.lemmas.Bool.{false≢true}
 use Rattle.std.proofs.lemmas.Bool.Decides.{nat_tests}
 use Rattle.std.proofs.lemmas.List.{append-nil}
 use Rattle.bdb_base.specs.Alternation.{alternates}
 use Rattle.bdb_base.specs.Bases.{is_user}
 use Rattle.bdb_base.specs.Segments.{is_suffix}
 use Rattle.bdb_base.specs.States.{deepest_suffix}
+use Rattle.bdb_base.proofs.OptionLemmas.{same_some}
+use Rattle.bdb_base.proofs.Numbers.{number_le}
 use Rattle.bdb_keep.specs.Tables.{Tables}
 use Rattle.bdb_names.proofs.Ends.{front_of, length_more, more_is_end}
-use Rattle.bdb_names.proofs.NameLemmas.{edge_found, path_is_named, same_some}
+use Rattle.bdb_names.proofs.NameLemmas.{edge_found, path_is_named}
 use Rattle.bdb_names.proofs.NamedLemmas.{cases_end, tables_have_names}
 use Rattle.bdb_paths.proofs.SuffixLemmas.{deepest_is_suffix}
 use Rattle.bdb_tables.specs.Codec.{HasFirst, IsFirst, place}
 use Rattle.bdb_tables.specs.InUse.{IsTriple, led_codec}
 use Rattle.bdb_tables.specs.Names.{Names, path_of, is_named, leads_to, edge_of}
-use Rattle.bdb_tables.specs.States.{row_where, HoldsStates, IsNamed, root, next}
-use Rattle.bdb_worlds.proofs.ReadLemmas.{le_parts, le_same, number_le}
+use Rattle.bdb_tables.specs.States.{HoldsStates, IsNamed, root, next}
+use Rattle.bdb_tables.proofs.Held.{leads_is, row_is}
+use Rattle.bdb_worlds.proofs.ReadLemmas.{le_parts, le_same}
 use Rattle.bdb_catalog.specs.Bases.{StoresSome}
 use Rattle.bdb_leaving.specs.Paths.{IsDeep, IsLed, IsLedBy}
 
@@ -63,14 +65,6 @@ module _ (t : Tables) (wid : ℕ) (led : IsLed t wid) where
       ]
 
 -- ---- one edge back
-
-leads_is : (o : Option ℕ) (n : ℕ) → leads_to o n ≡ true → o ≡ Some n
-leads_is None n h = absurd (false≢true h)
-leads_is (Some m) n h = ap Some (eqb-true m n h)
-
-row_is : (b : Bool) (x : List ℕ) → option_map (λ (u : Unit {0}). x) (row_where b) ≡ Some x → b ≡ true
-row_is true x e = refl
-row_is false x e = absurd cc
 
 -- an edge leads to the world of every path but the empty one
 leads_there : (t : Tables) {n : ℕ} {w : List ℕ} → IsNamed t n w → 0 < length w → IsLed t n

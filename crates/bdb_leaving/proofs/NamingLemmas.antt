@@ -21,11 +21,10 @@ use Rattle.bdb_base.specs.declared.tuple.Tuple.{Tuple}
 use Rattle.bdb_base.proofs.ListLemmas.{list_all_weaker}
 use Rattle.bdb_base.proofs.SetLemmas.{filter_keeps_order, is_eq-Equal, is_eq_itself, is_lt-Less, members_make_set, set_is_ascending}
 use Rattle.bdb_base.proofs.UserLemmas.{member-filter}
-use Rattle.bdb_base.proofs.WorldLemmas.{found_by, is_prefix_itself, list_any_weaker}
+use Rattle.bdb_base.proofs.WorldLemmas.{found_by, is_prefix_itself, list_any_weaker, stands_is_explicit, explicit_is_stated}
 use Rattle.bdb_base.proofs.WorldRowsLemmas.{list_all-flat_map, list_any-flat_map, rows_are_the_world, same_row_from, same_row_tells, tuples_stand_once}
+use Rattle.bdb_base.proofs.BoolLemmas.{same_tests}
 use Rattle.bdb_paths.proofs.StateLemmas.{list_has_states}
-use Rattle.bdb_tables.proofs.SignLemmas.{one_answer, stands_is_explicit}
-use Rattle.bdb_val.proofs.HeldLemmas.{explicit_is_stated}
 use Rattle.bdb_stored.proofs.TreeLemmas.{ascending_append}
 use Rattle.bdb_leaving.specs.Naming.{naming_at, said, said_at}
 
@@ -184,7 +183,7 @@ module _ (keys : ℕ → ℕ) (stmts : List Stmt) (uid : ℕ) (consistent : IsCo
   member_gathered : (x : Stmt) → is_member statement_cmp (flat_map at (states_of stmts)) x ≡ (stands stmts x && names_user uid x.path)
   member_gathered x =
       let p : Stmt → Bool = λ y. is_eq (statement_cmp y x) in
-      list_any-flat_map p at (states_of stmts) ∙ one_answer (list_any (λ w. list_any p (at w)) (states_of stmts)) (stands stmts x && names_user uid x.path)
+      list_any-flat_map p at (states_of stmts) ∙ same_tests (list_any (λ w. list_any p (at w)) (states_of stmts)) (stands stmts x && names_user uid x.path)
       (λ e. let found = found_by (λ w. list_any p (at w)) (states_of stmts) e in at_stands found.0 x found.1)
       (λ e.
       let k = and_parts (stands stmts x) (names_user uid x.path) e in

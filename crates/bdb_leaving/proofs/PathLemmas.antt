@@ -1,5 +1,5 @@
 -- Worlds with their paths, in the order of the paths, are the states of a base.
-use Rattle.std.proofs.Common.{◌≡◌, ◌∙◌, ℕ, suc, ◌+◌, ◌<◌, ◌≤◌, true, false, cond, List, [], ◌∷◌, length, map, get_or, Option, Some, None, is_some, refl, ap, sym, subst, inl, inr, arith}
+use Rattle.std.proofs.Common.{◌≡◌, ◌∙◌, ℕ, suc, ◌+◌, ◌<◌, ◌≤◌, true, false, cond, List, [], ◌∷◌, length, map, get_or, Option, Some, None, refl, ap, sym, subst, inl, inr, arith}
 use Prim.Native.Nat.{zero}
 use Rattle.std.specs.Prelude.{sum_by}
 use Rattle.std.specs.List.{AllByRecursion, list_all}
@@ -15,25 +15,25 @@ use Rattle.std.proofs.lemmas.List.Sorted.{All-permutation, IsPermutation-map, le
 use Rattle.std.proofs.lemmas.List.Sums.{sum_by-cons}
 use Rattle.bdb_base.specs.Bases.{Contents, is_user}
 use Rattle.bdb_base.specs.Order.{path_cmp}
-use Rattle.bdb_base.specs.OrderLemmas.{path_exact}
+use Rattle.bdb_base.specs.OrderLemmas.{path_exact, is_eq_nat_cmp}
 use Rattle.bdb_base.specs.SortedSet.{IsExactOrder, ascending, is_member}
 use Rattle.bdb_base.specs.States.{stated_prefixes, states_of}
 use Rattle.bdb_base.proofs.SetLemmas.{is_eq-Equal, is_eq_itself, less_from_greater, members_make_set, set_is_ascending, set_keeps_members}
+use Rattle.bdb_base.proofs.OptionLemmas.{same_some, some_mapped}
 use Rattle.bdb_keep.specs.Tables.{Tables}
 use Rattle.bdb_names.proofs.NamedLemmas.{tables_have_names}
-use Rattle.bdb_names.proofs.NameLemmas.{same_some}
-use Rattle.bdb_names.proofs.TurnedLemmas.{number_eq}
 use Rattle.bdb_tables.specs.InUse.{depth_codec}
 use Rattle.bdb_tables.specs.InUseLaws.{numbers_in_order, number_rows_are_one}
 use Rattle.bdb_tables.specs.Names.{Names, path_of, depth_of}
 use Rattle.bdb_tables.specs.Spans.{AreUnder}
 use Rattle.bdb_tables.specs.States.{HoldsStates, IsNamed}
+use Rattle.bdb_tables.proofs.UsedLemmas.{AllNamed, rest_named, first_named}
 use Rattle.bdb_stored.specs.Items.{items_of}
 use Rattle.bdb_catalog.specs.Bases.{StoresSome, StoresValid}
 use Rattle.bdb_stored.specs.Worlds.{TellsStates, named_world}
 use Rattle.bdb_stored.specs.declared.named.NamedWorld.{NamedWorld}
 use Rattle.bdb_stored.proofs.CountingLemmas.{numbers_of, one_path, paths_are_states, wids_named, wids_once}
-use Rattle.bdb_stored.proofs.ItemLemmas.{AllNamed, AreApart, first_named, items_apart, items_cons, rest_named}
+use Rattle.bdb_stored.proofs.ItemLemmas.{AreApart, items_apart, items_cons}
 use Rattle.bdb_stored.proofs.KeyLemmas.{rows_are_items}
 use Rattle.bdb_leaving.specs.Paths.{AreInOrder, HasPath, HavePaths, IsDeep, is_before, path_lengths}
 
@@ -109,10 +109,6 @@ heads x y xs ys e = cc
 tails : {X : Type 0} (x y : X) (xs ys : List X) → x ∷ xs ≡ y ∷ ys → xs ≡ ys
 tails x y xs ys e = cc
 
-there_is : {X : Type 0} (f : X → ℕ) (p : Option X) → is_some (option_map f p) ≡ is_some p
-there_is f None = refl
-there_is f (Some x) = refl
-
 path_there : (p : Option (List ℕ)) (d : ℕ) → option_map (λ w. length w) p ≡ Some d → (w : List ℕ) × (p ≡ Some w) × (length w ≡ d)
 path_there None d e = absurd cc
 path_there (Some w) d e = (w, refl, same_some (length w) d e)
@@ -144,8 +140,8 @@ module _ (t : Tables) (b : Contents) (v : StoresValid t b) where
   module _ (rows : List (ℕ × ℕ)) (under : AreUnder depth_codec t [] rows) where
     pub all_deep : AllByRecursion (IsDeep t) rows
     all_deep =
-        each_deep rows (rows_are_items depth_codec numbers_in_order number_eq (λ k f. f) (λ k f. f) number_rows_are_one t (depth_of ns) h.tables.depth rows under)
-        (λ k e. there_is (λ w. length w) (path_of ns k) ∙ wids_named t b v rows under k e)
+        each_deep rows (rows_are_items depth_codec numbers_in_order is_eq_nat_cmp (λ k f. f) (λ k f. f) number_rows_are_one t (depth_of ns) h.tables.depth rows under)
+        (λ k e. some_mapped (λ w. length w) (path_of ns k) ∙ wids_named t b v rows under k e)
 
     -- ---- worlds with their paths
 

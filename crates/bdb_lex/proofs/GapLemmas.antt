@@ -66,10 +66,10 @@ gap_of_one b h = elim (or_cases (is_blank b) (nat_eq b 45 && false) h) [
 ]
 
 -- what is left has the same tokens, within a comment and outside
-blank_tokens : (b : ℕ) (bytes : List ℕ) → is_blank b ≡ true → tokens_of (b ∷ bytes) ≡ tokens_of bytes
+pub blank_tokens : (b : ℕ) (bytes : List ℕ) → is_blank b ≡ true → tokens_of (b ∷ bytes) ≡ tokens_of bytes
 blank_tokens b bytes e = tokens_at b bytes ∙ ap (λ r. tokens_from r bytes) (started_blank b e)
 
-dash_tokens : (bytes : List ℕ) → tokens_of (45 ∷ 45 ∷ bytes) ≡ tokens_from in_comment bytes
+pub dash_tokens : (bytes : List ℕ) → tokens_of (45 ∷ 45 ∷ bytes) ≡ tokens_from in_comment bytes
 dash_tokens bytes = tokens_at 45 (45 ∷ bytes) ∙ joined_nothing _
 
 comment_tokens : (b : ℕ) (bytes : List ℕ) → tokens_from in_comment (b ∷ bytes) ≡ tokens_from (cond (nat_eq b 10) between in_comment) bytes

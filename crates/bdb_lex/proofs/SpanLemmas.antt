@@ -5,6 +5,8 @@ use Rattle.std.proofs.lemmas.List.{append-nil}
 use Rattle.std.proofs.lemmas.List.Folds.{list_all-append}
 use Rattle.std.proofs.lemmas.Grind.{flat_map-append}
 use Rattle.std.specs.List.{list_any}
+use Rattle.bdb_base.proofs.ListLemmas.{or_false}
+use Rattle.bdb_base.proofs.BoolLemmas.{and_true, or_true, or_assoc}
 use Rattle.bdb_lex.specs.declared.mode.Mode.{Mode}
 use Rattle.bdb_lex.specs.declared.mode.Mode.TheVariants.{Plain, Dash, Quoted, Comment}
 use Rattle.bdb_lex.specs.declared.token.Piece.{Piece}
@@ -222,18 +224,6 @@ pub record Same (s : CutState) (bytes : List ℕ) (now : CutState) (rest : List 
 abbrev pub plain : Piece → Bool → CutState
 plain p h = state_of Plain p h
 
-or_true : (h : Bool) → (h || true) ≡ true
-or_true true = refl
-or_true false = refl
-
-or_false : (h : Bool) → (h || false) ≡ h
-or_false true = refl
-or_false false = refl
-
-or_assoc : (a b c : Bool) → ((a || b) || c) ≡ (a || (b || c))
-or_assoc true b c = refl
-or_assoc false b c = refl
-
 same_on : (s now then : CutState) (bytes rest after : List ℕ) → Same s bytes now rest → Same now rest then after → Same s bytes then after
 same_on s now then bytes rest after a b = record { pieces = a.pieces ∙ b.pieces; holds = a.holds ∙ b.holds }
 
@@ -253,10 +243,6 @@ state_is m n p h k e f = ap (λ v. state_of v p h) e ∙ ap (λ v. state_of n p 
 
 same_state : (s now : CutState) (bytes : List ℕ) → s ≡ now → Same s bytes now bytes
 same_state s now bytes e = record { pieces = ap (λ v. pieces_from v bytes) e; holds = ap (λ v. holds_something (state_after v bytes)) e }
-
-and_true : (b : Bool) → (b && true) ≡ b
-and_true true = refl
-and_true false = refl
 
 -- a dash that no dash follows is a byte like another
 dash_is_plain : (p : Piece) (h : Bool) (s : List ℕ) → begins_dash s ≡ false → Same (state_of Dash p h) s (plain p true) s

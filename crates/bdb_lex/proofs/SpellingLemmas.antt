@@ -3,9 +3,9 @@ use Rattle.std.proofs.Common.{◌≡◌, ◌⊎◌, ℕ, Bool, true, false, not,
 use Rattle.std.specs.Option.{option_and_then}
 use Rattle.std.proofs.lemmas.Bool.{false≢true, and_parts, and_from, cond-true, cond-false, cases_Bool, eqb-true, or_left, not-true}
 use Rattle.std.proofs.lemmas.List.{append-nil}
-use Rattle.std.proofs.lemmas.List.Folds.{list_all-append}
 use Rattle.std.specs.List.{list_all}
 use Rattle.std.specs.Char.{is_ascii_digit}
+use Rattle.bdb_base.proofs.ListLemmas.{list_all_push}
 use Rattle.bdb_lex.specs.declared.token.Token.{Token}
 use Rattle.bdb_lex.specs.declared.token.Token.TheVariants.{Word, Text, Num, Comma, Dot, ParenL, ParenR, Eq, Ne, Lt, Le, Gt, Ge}
 use Rattle.bdb_lex.specs.Bytes.{is_blank, is_letter, is_word_byte}
@@ -16,7 +16,8 @@ use Rattle.bdb_lex.specs.Tokens.{Reading, started, extended, continued, finished
 use Rattle.bdb_lex.specs.Tokens.Reading.{between, whole, in_text, after_dash, after_bang, in_comment, failed}
 use Rattle.bdb_lex.specs.TokenGrammar.{is_gap, is_last_gap, IsGap, doubled, Spells, IsLongest, IsTokens, TokensAreSpelled, TokensAreFormed, is_formed}
 use Rattle.bdb_lex.proofs.SpanLemmas.{byte_stands, lacks_more}
-use Rattle.bdb_lex.proofs.TokenLemmas.{joined_nothing, tokens_at, StopsAt, stops, blank_is, started_blank, started_letter, started_digit, digit_no_dash}
+use Rattle.bdb_lex.proofs.TokenLemmas.{joined_nothing, tokens_at, StopsAt, stops, blank_is, started_letter, started_digit, digit_no_dash}
+use Rattle.bdb_lex.proofs.GapLemmas.{blank_tokens, dash_tokens}
 
 -- where a reading goes with these bytes, if it goes on with each
 abbrev pub goes : List ℕ → Option Reading → Option Reading
@@ -306,21 +307,17 @@ read_start b =
     ) in
     picked_is P (starting b) each
 
--- words and numbers with a byte more
-list_all_last : (test : ℕ → Bool) (a : List ℕ) (b : ℕ) → list_all test a ≡ true → test b ≡ true → list_all test (a ++ b ∷ []) ≡ true
-list_all_last test a b h e = list_all-append test a (b ∷ []) ∙ and_from _ _ h (and_from _ _ e refl)
-
 pub is_word_more : (w : List ℕ) (b : ℕ) → is_word w ≡ true → is_word_byte b ≡ true → is_word (w ++ b ∷ []) ≡ true
 is_word_more [] b h e = absurd (false≢true h)
 is_word_more (c ∷ w) b h e =
     let parts = and_parts (is_letter c) (list_all is_word_byte (c ∷ w)) h in
-    and_from _ _ parts.0 (list_all_last is_word_byte (c ∷ w) b parts.1 e)
+    and_from _ _ parts.0 (list_all_push is_word_byte (c ∷ w) b parts.1 e)
 
 is_digits_more : (n : List ℕ) (b : ℕ) → is_digits n ≡ true → is_ascii_digit b ≡ true → is_digits (n ++ b ∷ []) ≡ true
 is_digits_more [] b h e = absurd (false≢true h)
 is_digits_more (c ∷ n) b h e =
     let parts = and_parts (is_ascii_digit c) (list_all is_ascii_digit (c ∷ n)) h in
-    and_from _ _ parts.0 (list_all_last is_ascii_digit (c ∷ n) b parts.1 e)
+    and_from _ _ parts.0 (list_all_push is_ascii_digit (c ∷ n) b parts.1 e)
 
 pub is_num_more : (n : List ℕ) (b : ℕ) → is_num n ≡ true → is_ascii_digit b ≡ true → is_num (n ++ b ∷ []) ≡ true
 is_num_more [] b h e = absurd (false≢true h)
@@ -513,19 +510,13 @@ comment_run (b ∷ c) rest h =
     let e : nat_eq b 10 ≡ false = not-true _ parts.0 in
     rw e (joined_nothing _ ∙ comment_run c rest parts.1)
 
-comment_start : (rest : List ℕ) → tokens_of (45 ∷ 45 ∷ rest) ≡ tokens_from in_comment rest
-comment_start rest = tokens_at 45 (45 ∷ rest) ∙ joined_nothing _
-
 comment_passed : (c rest : List ℕ) → lacks 10 c ≡ true → tokens_of (45 ∷ 45 ∷ ((c ++ 10 ∷ []) ++ rest)) ≡ tokens_of rest
 comment_passed c rest h =
-    comment_start ((c ++ 10 ∷ []) ++ rest) ∙ (ap (tokens_from in_comment) (append_assoc c (10 ∷ []) rest)
+    dash_tokens ((c ++ 10 ∷ []) ++ rest) ∙ (ap (tokens_from in_comment) (append_assoc c (10 ∷ []) rest)
     ∙ (comment_run c (10 ∷ rest) h ∙ joined_nothing _))
 
-blank_passed : (b : ℕ) (rest : List ℕ) → is_blank b ≡ true → tokens_of (b ∷ rest) ≡ tokens_of rest
-blank_passed b rest e = tokens_at b rest ∙ ap (λ r. tokens_from r rest) (started_blank b e)
-
 open_passed : (c : List ℕ) → lacks 10 c ≡ true → tokens_of (45 ∷ 45 ∷ c) ≡ Some []
-open_passed c h = comment_start c ∙ (ap (tokens_from in_comment) (sym (append-nil c)) ∙ comment_run c [] h)
+open_passed c h = dash_tokens c ∙ (ap (tokens_from in_comment) (sym (append-nil c)) ∙ comment_run c [] h)
 
 pub gap_passed : (spans : List Span) (rest : List ℕ) → all_stand spans ≡ true → list_all is_gap spans ≡ true
     → tokens_of (bytes_of spans ++ rest) ≡ tokens_of rest
@@ -533,7 +524,7 @@ gap_passed [] rest s g = refl
 gap_passed (byte b ∷ spans) rest s g =
     let stand = and_parts (may_stand (byte b) spans) (all_stand spans) s in
     let gap = and_parts (is_blank b) (list_all is_gap spans) g in
-    blank_passed b (bytes_of spans ++ rest) gap.0 ∙ gap_passed spans rest stand.1 gap.1
+    blank_tokens b (bytes_of spans ++ rest) gap.0 ∙ gap_passed spans rest stand.1 gap.1
 gap_passed (comment c ∷ spans) rest s g =
     let stand = and_parts (lacks 10 c) (all_stand spans) s in
     ap tokens_of (append_assoc (spelled (comment c)) (bytes_of spans) rest)
@@ -548,7 +539,7 @@ last_gap_passed [] s g = refl
 last_gap_passed (byte b ∷ spans) s g =
     let stand = and_parts (may_stand (byte b) spans) (all_stand spans) s in
     let gap = and_parts (is_blank b) (list_all is_last_gap spans) g in
-    blank_passed b (bytes_of spans) gap.0 ∙ last_gap_passed spans stand.1 gap.1
+    blank_tokens b (bytes_of spans) gap.0 ∙ last_gap_passed spans stand.1 gap.1
 last_gap_passed (comment c ∷ spans) s g =
     let stand = and_parts (lacks 10 c) (all_stand spans) s in
     comment_passed c (bytes_of spans) stand.0 ∙ last_gap_passed spans stand.1 g

@@ -8,10 +8,11 @@ use Rattle.std.specs.Str.{IsAscii, is_utf8}
 use Rattle.std.specs.List.{list_all}
 use Rattle.std.specs.Result.{IsErrOf}
 use Rattle.std.specs.Char.{is_ascii_digit}
+use Rattle.bdb_base.specs.Bases.{is_clean}
 use Rattle.bdb_lex.specs.declared.token.Token.{Token}
 use Rattle.bdb_lex.specs.declared.token.Token.TheVariants.{Word, Text, Num, Ne}
 use Rattle.bdb_lex.specs.Bytes.{is_blank, is_letter, is_word_byte}
-use Rattle.bdb_lex.specs.Tokens.{started, extended, finished, joined, tokens_from, tokens_of, is_content}
+use Rattle.bdb_lex.specs.Tokens.{started, extended, finished, joined, tokens_from, tokens_of}
 use Rattle.bdb_lex.specs.Tokens.Reading.{between, whole, in_text, after_dash, after_bang, failed}
 use Rattle.bdb_lex.specs.Reading.{begins, is_digits, is_num, is_word, begins_gap, is_no_quote, begins_num, IsSingle, Reads, ReadsOn, IsParted}
 
@@ -311,14 +312,14 @@ bang_alone (b ∷ bytes) h = rw h (ap (joined (Some [])) (tokens_failed bytes))
 
 -- what follows a text that is closed
 pub text_reads : (c content bytes part after : List ℕ) (token : Token) → content ≡ c ++ part → IsParted bytes part after
-    → begins (λ b. nat_eq b 39) after ≡ false → is_content content ≡ true → token ≡ Text content
+    → begins (λ b. nat_eq b 39) after ≡ false → is_clean content ≡ true → token ≡ Text content
     → tokens_from (in_text c) bytes ≡ joined (Some (token ∷ [])) (tokens_of after)
 text_reads c content bytes part after token e parted end allowed t =
     rw t (text_parted c bytes part after parted.whole parted.unquoted ∙ (ap (λ v. tokens_from (whole (Text v)) after) (sym e)
     ∙ (text_closed content after end ∙ ap (λ x. joined x (tokens_of after)) (cond-true _ _ _ allowed))))
 
 pub text_fails : (c content bytes part after : List ℕ) → content ≡ c ++ part → IsParted bytes part after
-    → begins (λ b. nat_eq b 39) after ≡ false → is_content content ≡ false → tokens_from (in_text c) bytes ≡ None
+    → begins (λ b. nat_eq b 39) after ≡ false → is_clean content ≡ false → tokens_from (in_text c) bytes ≡ None
 text_fails c content bytes part after e parted end wrong =
     text_parted c bytes part after parted.whole parted.unquoted ∙ (ap (λ v. tokens_from (whole (Text v)) after) (sym e)
     ∙ (text_closed content after end ∙ ap (λ x. joined x (tokens_of after)) (cond-false _ _ _ wrong)))

@@ -45,8 +45,8 @@ abbrev pub behind_gaps : List ℕ → List ℕ
 behind_gaps bytes = behind false bytes
 
 -- what begins neither a gap nor a word, a number or a text
-abbrev pub is_mark_byte : ℕ → Bool
-is_mark_byte b = not (is_blank b || (is_letter b || (is_ascii_digit b || (nat_eq b 39 || nat_eq b 45))))
+abbrev pub is_symbol_byte : ℕ → Bool
+is_symbol_byte b = not (is_blank b || (is_letter b || (is_ascii_digit b || (nat_eq b 39 || nat_eq b 45))))
 
 -- a token, which goes on with no byte
 abbrev pub IsSingle : Token → Type 0

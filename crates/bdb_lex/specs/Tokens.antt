@@ -1,21 +1,16 @@
 -- The tokens of a piece, one step for each byte: a byte goes on with what is being read, or ends it and starts anew.
-use Rattle.std.specs.Prelude.{ℕ, Bool, true, ◌&&◌, cond, nat_eq, nat_le, Option, Some, None, List, [], ◌∷◌, ◌++◌, length}
-use Rattle.std.specs.List.{list_all}
-use Rattle.std.specs.Str.{is_utf8}
+use Rattle.std.specs.Prelude.{ℕ, Bool, true, cond, nat_eq, nat_le, Option, Some, None, List, [], ◌∷◌, ◌++◌, length}
 use Rattle.std.specs.Char.{is_ascii_digit}
 use Rattle.bdb_base.specs.Limits.{longest_word}
+use Rattle.bdb_base.specs.Bases.{is_clean}
 use Rattle.bdb_lex.specs.Bytes.{is_blank, is_letter, is_word_byte}
 use Rattle.bdb_lex.specs.declared.token.Token.{Token}
 use Rattle.bdb_lex.specs.declared.token.Token.TheVariants.{Word, Text, Num, Comma, Dot, ParenL, ParenR, Eq, Ne, Lt, Le, Gt, Ge}
 
--- the content of a text: UTF-8 without characters below the space
-abbrev pub is_content : List ℕ → Bool
-is_content bytes = is_utf8 bytes && list_all (λ b. nat_le 32 b) bytes
-
 -- a word of at most 255 bytes, a text of allowed content, or another token
 abbrev pub is_allowed : Token → Bool
 is_allowed (Word w) = nat_le (length w) longest_word
-is_allowed (Text content) = is_content content
+is_allowed (Text content) = is_clean content
 is_allowed t = true
 
 -- what is being read: nothing; a whole token, which may go on; a text with its content so far; a dash; an exclamation mark;

@@ -1,7 +1,8 @@
 // Text literals.
 ghost use Rattle.std.specs.Prelude.{◌≡◌, true, false, nat_eq, nat_le, None, [], IfSome, IfNone, IfOk, OnOk, IsErrOf};
 ghost use Rattle.std.specs.List.{list_all};
-ghost use Rattle.bdb_lex.specs.Tokens.{tokens_from, is_content};
+ghost use Rattle.bdb_base.specs.Bases.{is_clean};
+ghost use Rattle.bdb_lex.specs.Tokens.{tokens_from};
 ghost use Rattle.bdb_lex.specs.Tokens.Reading.{in_text};
 ghost use Rattle.bdb_lex.specs.Reading.{begins, ReadsOn, IsParted, is_no_quote};
 
@@ -76,8 +77,8 @@ fn parted(bytes: &[u8]) -> Option<(&[u8], &[u8])>
 /// The text literal of a content. `NotTokens` comes exactly where the content isn't allowed.
 fn text_token(content: &[u8]) -> Result<Token<'_>, LexError>
     ensures ok { IfOk result (λ token. token ≡ Token.Text content.now) }
-    ensures allowed { OnOk result (is_content content.now ≡ true) }
-    ensures not_tokens { IsErrOf result LexError.NotTokens → is_content content.now ≡ false }
+    ensures allowed { OnOk result (is_clean content.now ≡ true) }
+    ensures not_tokens { IsErrOf result LexError.NotTokens → is_clean content.now ≡ false }
 {
     if !has_no_control(content) {
         return Err(LexError::NotTokens);
@@ -89,8 +90,8 @@ fn text_token(content: &[u8]) -> Result<Token<'_>, LexError>
 /// The same, of a content that was put together.
 fn own_text_token<'a>(content: Vec<u8>) -> Result<Token<'a>, LexError>
     ensures ok { IfOk result (λ token. token ≡ Token.Text content.items) }
-    ensures allowed { OnOk result (is_content content.items ≡ true) }
-    ensures not_tokens { IsErrOf result LexError.NotTokens → is_content content.items ≡ false }
+    ensures allowed { OnOk result (is_clean content.items ≡ true) }
+    ensures not_tokens { IsErrOf result LexError.NotTokens → is_clean content.items ≡ false }
 {
     if !has_no_control(content.as_slice()) {
         return Err(LexError::NotTokens);

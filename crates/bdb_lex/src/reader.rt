@@ -5,8 +5,8 @@ ghost use Rattle.bdb_lex.specs.Reading.{begins, begins_gap, Reads};
 
 use crate::bytes::{is_digit, is_letter};
 use crate::gap::behind_gaps;
-use crate::mark::mark_behind;
 use crate::quoted::text_behind;
+use crate::symbol::symbol_behind;
 use crate::token::{LexError, Token};
 use crate::word::{num_at, word_at};
 use bdb_base::List;
@@ -50,7 +50,7 @@ fn token_at(alloc: Global, first: u8, bytes: &[u8]) -> Result<(Token<'_>, &[u8])
     } else if first == b'\'' {
         text_behind(alloc, &bytes[1..])
     } else {
-        match mark_behind(first, &bytes[1..]) {
+        match symbol_behind(first, &bytes[1..]) {
             Some(read) => Ok(read),
             None => Err(LexError::NotTokens),
         }

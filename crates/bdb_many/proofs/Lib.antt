@@ -1,2 +1,2 @@
 pub mod ManyLemmas
-pub mod MarkLemmas
+pub mod LabelLemmas

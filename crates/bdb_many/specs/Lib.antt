@@ -1,2 +1,2 @@
 pub mod Many
-pub mod Marks
+pub mod Labels

@@ -11,7 +11,7 @@ use Rattle.bdb_multi.specs.Sessions.{Commands, act_after, acts_of}
 use Rattle.bdb_multi.specs.Batches.{Ran, ran_from}
 use Rattle.bdb_events.specs.declared.read.Read.{Read}
 use Rattle.bdb_events.specs.Pieces.{read_of}
-use Rattle.bdb_many.specs.Marks.{told, marked}
+use Rattle.bdb_many.specs.Labels.{told, labelled}
 
 -- How batches are run in a state: what is told of the commands, up to and with the first that is refused; whether none is; how many
 -- come before the first that is; and the state after, as it was where one is refused.
@@ -33,8 +33,8 @@ act_reply m s n Aborted = told n (codes "aborted")
 act_reply m s n ErrBegun = told n (codes "error begun")
 act_reply m s n ErrNotBegun = told n (codes "error not begun")
 act_reply m s n ErrBatch = told n (codes "error batch")
-act_reply m s n (One c) = marked n (m.text s (c ∷ []))
-act_reply m s n (Batch q) = marked n (m.text s q) ++ told n (end_text m s q)
+act_reply m s n (One c) = labelled n (m.text s (c ∷ []))
+act_reply m s n (Batch q) = labelled n (m.text s q) ++ told n (end_text m s q)
 
 -- the state after an act
 abbrev pub act_next : {S : Type 0} → Batches S → S → Act → S

@@ -1,10 +1,10 @@
 //! What holds of streams of sessions.
 ghost use Rattle.bdb_many.specs.Many.{LeadsAsBatches};
-ghost use Rattle.bdb_many.specs.Marks.{LinesAreMarked};
+ghost use Rattle.bdb_many.specs.Labels.{LinesAreLabelled};
 
-/// Of lines, each has the mark of its session before it.
-pub fn lines_are_marked()
-    ensures { LinesAreMarked }
+/// Of lines, each has the label of its session before it.
+pub fn lines_are_labelled()
+    ensures { LinesAreLabelled }
 {}
 
 /// A stream leads where the batches of its events lead, run one after the other, however the lines of sessions stand between

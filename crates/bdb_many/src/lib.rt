@@ -3,4 +3,4 @@
 
 mod laws;
 
-pub use laws::{leads_as_batches, lines_are_marked};
+pub use laws::{leads_as_batches, lines_are_labelled};

@@ -16,6 +16,7 @@ use Rattle.bdb_base.specs.Queries.{active_domain, HasValues, answers_of, answers
 use Rattle.bdb_base.specs.Safety.{query_fits, IsSafe}
 use Rattle.bdb_base.specs.SortedSet.{sorted_set}
 use Rattle.bdb_base.proofs.SetLemmas.{set_is_ascending, set_keeps_members, is_eq_itself, loop_makes_set}
+use Rattle.bdb_base.proofs.ListLemmas.{length_map}
 use Rattle.bdb_queries.specs.QueryLaws.{IsHeldRow}
 use Rattle.bdb_queries.proofs.AnswerLemmas.{row_of_option}
 use Rattle.bdb_queries.proofs.DomainLemmas.{answers_are_what_holds, answers_need_no_domain}
@@ -43,10 +44,6 @@ chosen_length (pool ∷ pools) (x ∷ xs) [] c = absurd c
 chosen_length (None ∷ pools) (x ∷ xs) (y ∷ ys) c = ap suc (chosen_length pools xs ys c.1)
 chosen_length (Some pool ∷ pools) (x ∷ xs) (y ∷ ys) c = ap suc (chosen_length pools xs ys c.1)
 
-map_length : {X Y : Type 0} (f : X → Y) (xs : List X) → length (map f xs) ≡ length xs
-map_length f [] = refl
-map_length f (x ∷ xs) = ap suc (map_length f xs)
-
 plus_length : (f : Item → List Held) (items : List Item) → length (plus_pools items (map f items)) ≡ length items
 plus_length f [] = refl
 plus_length f (item ∷ items) = ap suc (plus_length f items)
@@ -72,10 +69,10 @@ pub found_is_held : (b : Contents) (q : Query) (sources : List Cond) → IsValid
 found_is_held b q sources valid fits row m =
     let items = q.items in
     let first = chosen_from_rows q.conds (rows_of_users b q sources) (is_row row) (map (user_pool b.catalog.users) items) [] (open_slots items) (open_slots items) 0 refl refl
-    (map_length (λ item. None) items ∙ sym (map_length (user_pool b.catalog.users) items)) m in
+    (length_map (λ item. None) items ∙ sym (length_map (user_pool b.catalog.users) items)) m in
     let xs = first.0 in
     let world = item_world (keys_of b) b.stmts xs in
-    let long = chosen_length (map (user_pool b.catalog.users) items) (open_slots items) xs first.1 ∙ map_length (λ item. None) items in
+    let long = chosen_length (map (user_pool b.catalog.users) items) (open_slots items) xs first.1 ∙ length_map (λ item. None) items in
     let second = chosen_from_rows q.conds (rows_of_tuples b.catalog.rels q sources (map world items)) (is_row row) (plus_pools items (map world items)) [] xs xs 0 refl refl
     (long ∙ sym (plus_length world items)) first.2 in
     let ys = second.0 in

@@ -24,7 +24,7 @@ use Rattle.bdb_base.specs.SortedSet.{ascending}
 use Rattle.bdb_base.specs.Worlds.{contradicted}
 use Rattle.bdb_base.proofs.BaseLemmas.{clash_itself}
 use Rattle.bdb_base.proofs.ClashLemmas.{clash_is_symmetric}
-use Rattle.bdb_base.proofs.ListLemmas.{list_any_fails}
+use Rattle.bdb_base.proofs.ListLemmas.{list_any_fails, list_any_under}
 use Rattle.bdb_base.proofs.SetLemmas.{cases_Ordering, greater_from_less}
 use Rattle.bdb_model.specs.Clashes.{clashes_after, last_plus}
 
@@ -36,11 +36,6 @@ find_same p q r h [] e = refl
 find_same p q r h (x ∷ xs) e =
     let k = or_parts (r x) (list_any r xs) e in
     ap (λ b. cond b (Some x) (find p xs)) (h x k.0) ∙ ap (λ o. cond (q x) (Some x) o) (find_same p q r h xs k.1)
-
-and_out : {X : Type 0} (a : Bool) (f : X → Bool) (xs : List X) → list_any (λ x. a && f x) xs ≡ (a && list_any f xs)
-and_out true f xs = refl
-and_out false f [] = refl
-and_out false f (x ∷ xs) = and_out false f xs
 
 or_dropped : (a b c d : Bool) → (a && (b && c)) ≡ false → (b && ((a && c) || d)) ≡ (b && d)
 or_dropped true true true d h = absurd (true≢false h)
@@ -67,7 +62,7 @@ first_on keys x xs w =
       | inr e ↦ ap (λ o. cond test (Some x) o) (find_same p q (λ y. same_path x.path w && f y) (λ y h.
           or_dropped (same_path x.path w) (same_path y.path w) (clash keys y.tuple y.sign x.tuple x.sign) (contradicted keys xs w y.tuple y.sign)
           (ap (λ b. same_path x.path w && (same_path y.path w && b)) (clash_is_symmetric keys y.tuple x.tuple y.sign x.sign) ∙ h))
-          xs (and_out (same_path x.path w) f xs ∙ e))
+          xs (list_any_under (same_path x.path w) f xs ∙ e))
     ]
 
 first_past : (keys : ℕ → ℕ) (x : Stmt) (xs : List Stmt) (w : List ℕ) → (same_path x.path w && contradicted keys xs w x.tuple x.sign) ≡ false

@@ -11,7 +11,7 @@ use Rattle.std.specs.declared.cmp.Ordering.{Ordering}
 use Rattle.std.specs.declared.cmp.Ordering.TheVariants.{Less, Equal, Greater}
 use Rattle.std.specs.Ordering.{is_eq, is_lt, nat_cmp, ordering_then}
 use Rattle.std.specs.Cmp.Lexicographic.{slice_cmp}
-use Rattle.std.proofs.lemmas.Bool.{cases_Bool, and_parts, and_from, or_left, or_right, or_from, or_cases, false≢true, false_from_ne_true, not_from_false, cond-false}
+use Rattle.std.proofs.lemmas.Bool.{cases_Bool, and_parts, and_from, or_left, or_right, or_from, or_cases, false≢true, false_from_ne_true, not_from_false, cond-false, not-true}
 use Rattle.std.proofs.lemmas.Bool.Decides.{nat_tests}
 use Rattle.bdb_base.specs.declared.kinds.Held.{Held}
 use Rattle.bdb_base.specs.declared.kinds.Sign.{Sign}
@@ -31,14 +31,12 @@ use Rattle.bdb_base.proofs.CountLemmas.{list_any-filter_some}
 use Rattle.bdb_base.proofs.ListLemmas.{filter_all, filter_dropped_one, filter_kept_one, list_all_get, list_all_weaker}
 use Rattle.bdb_base.proofs.SetLemmas.{filter_keeps_order, is_eq-Equal, is_lt-Less, members_make_set, set_is_ascending, set_keeps_members, stands_at}
 use Rattle.bdb_base.proofs.WorldRowsLemmas.{member_of_map, stated_is_member}
+use Rattle.bdb_base.proofs.FindLemmas.{list_any-filter_same}
+use Rattle.bdb_base.proofs.SegmentLemmas.{suffix_itself, length-suffix}
 use Rattle.bdb_model.specs.Ends.{IsFirstAt, WorldsDependOnEnds, is_before}
 use Rattle.bdb_model.proofs.LevelLemmas.{flat_map_same}
 
 -- ---- lists
-
-fails : (b : Bool) → not b ≡ true → b ≡ false
-fails true e = sym e
-fails false e = refl
 
 not_right : (a b : Bool) → not (a || b) ≡ true → not b ≡ true
 not_right true b e = absurd (false≢true e)
@@ -48,7 +46,7 @@ filter_none : {X : Type 0} (q : X → Bool) (xs : List X) → list_all (λ x. no
 filter_none q [] h = refl
 filter_none q (x ∷ xs) h =
     let k = and_parts (not (q x)) (list_all (λ y. not (q y)) xs) h in
-    filter_dropped_one q x xs (fails (q x) k.0) ∙ filter_none q xs k.1
+    filter_dropped_one q x xs (not-true (q x) k.0) ∙ filter_none q xs k.1
 
 -- a test that fails at all items behind one at which it fails
 module _ {X : Type 0} {R : X → X → Ordering} (o : IsExactOrder R) (p : X → Bool) (fails_on : (x y : X) → R x y ≡ Less → p x ≡ false → p y ≡ false) where
@@ -67,7 +65,7 @@ module _ {X : Type 0} {R : X → X → Ordering} (o : IsExactOrder R) (p : X →
       (list_all_weaker (λ z. is_lt (R z y)) p (λ z k. passes_back z y (is_lt-Less (R z y) k) e) (take m xs) s.below)
       (ap (λ z. p z && true) (sym r) ∙ ap (λ b. b && true) e)
 
-  -- where an item fails, so do all behind it
+  -- where an item not-true, so do all behind it
   pub none_from : (xs : List X) (y : X) (m : ℕ) → ascending R xs ≡ true → m < length xs → y ≡ get_or xs m y → p y ≡ false → list_all (λ z. not (p z)) (drop m xs) ≡ true
   none_from xs y m h l r e =
       let s = stands_at o xs y m h (slice_get_read xs (length xs) m y refl l r) in
@@ -176,27 +174,13 @@ run_is_part stmts rest w at n y is h f t l r e =
     rises = ap (ascending statement_cmp) is ∙ drop_ascends statement_cmp at stmts h
 
     behind : is_before w y ≡ false
-    behind = fails (is_before w y) (list_all_get (λ x. not (is_before w x)) rest n y (ap (list_all (λ x. not (is_before w x))) is ∙ f.behind) (slice_get_read rest (length rest) n y refl l r))
+    behind = not-true (is_before w y) (list_all_get (λ x. not (is_before w x)) rest n y (ap (list_all (λ x. not (is_before w x))) is ∙ f.behind) (slice_get_read rest (length rest) n y refl l r))
 
     none : filter q (drop n rest) ≡ []
     none = filter_none q (drop n rest) (list_all_weaker (λ x. not (is_up_to w x)) (λ x. not (q x)) (λ x k. not_right (is_before w x) (q x) k) (drop n rest)
         (none_from statement_exact (is_up_to w) (not_up_to_stays w) rest y n rises l r (or_from (is_before w y) (q y) behind e)))
 
 -- ---- the statements at the ends of a path
-
-same_itself : (w : List ℕ) → same_path w w ≡ true
-same_itself w = (same_path-Decides w w).1 refl
-
-suffix_itself : (w : List ℕ) → is_suffix w w ≡ true
-suffix_itself [] = refl
-suffix_itself (i ∷ w) = or_left (same_path (i ∷ w) (i ∷ w)) (is_suffix (i ∷ w) w) (same_itself (i ∷ w))
-
-length-suffix : (v w : List ℕ) → is_suffix v w ≡ true → length v ≤ length w
-length-suffix v [] h = let e = ap length ((same_path-Decides v []).0 h) in omega arith
-length-suffix v (j ∷ w) h = elim (or_cases (same_path v (j ∷ w)) (is_suffix v w) h) [
-  | inl a ↦ let e = ap length ((same_path-Decides v (j ∷ w)).0 a) in omega arith
-  | inr b ↦ let k = length-suffix v w b in omega arith
-]
 
 -- no statement behind one of a longer path is at an end of a path
 none_shorter : (w : List ℕ) (x : Stmt) (xs : List Stmt) → length w < length x.path → list_all (λ y. is_lt (statement_cmp x y)) xs ≡ true → filter (λ y. is_suffix y.path w) xs ≡ []
@@ -264,16 +248,6 @@ ends_ascend w stmts h = filter_keeps_order statement_exact (λ x. is_suffix x.pa
 
 -- ---- a world depends on the statements at the path's ends alone
 
--- what a test finds, it finds among the items that pass another test, where each item that it finds passes that
-found_by_both : {X : Type 0} (p q : X → Bool) → ((x : X) → p x ≡ true → q x ≡ true) → (xs : List X) → list_any p (filter q xs) ≡ list_any p xs
-found_by_both p q h [] = refl
-found_by_both p q h (x ∷ xs) = elim (cases_Bool (q x)) [
-  | inl e ↦ ap (list_any p) (filter_kept_one q x xs e) ∙ ap (λ b. p x || b) (found_by_both p q h xs)
-  | inr e ↦
-      let n : p x ≡ false = false_from_ne_true (p x) (λ t. false≢true (sym e ∙ h x t)) in
-      ap (list_any p) (filter_dropped_one q x xs e) ∙ found_by_both p q h xs ∙ ap (λ b. b || list_any p xs) (sym n)
-]
-
 -- a test has all statements of a path's ends
 abbrev HasEnds : (Stmt → Bool) → List ℕ → Type 0
 HasEnds q w = (x : Stmt) → is_suffix x.path w ≡ true → q x ≡ true
@@ -281,7 +255,7 @@ HasEnds q w = (x : Stmt) → is_suffix x.path w ≡ true → q x ≡ true
 -- at this very path nothing is lost
 kept_here : (p q : Stmt → Bool) (stmts : List Stmt) (w : List ℕ) → HasEnds q w
     → list_any (λ x. same_path x.path w && p x) (filter q stmts) ≡ list_any (λ x. same_path x.path w && p x) stmts
-kept_here p q stmts w h = found_by_both (λ x. same_path x.path w && p x) q
+kept_here p q stmts w h = list_any-filter_same (λ x. same_path x.path w && p x) q
     (λ x e. h x (ap (λ v. is_suffix v w) ((same_path-Decides x.path w).0 (and_parts (same_path x.path w) (p x) e).0) ∙ suffix_itself w)) stmts
 
 explicit_kept : (q : Stmt → Bool) (stmts : List Stmt) (w : List ℕ) (t : Tuple) (s : Sign) → HasEnds q w → explicit (filter q stmts) w t s ≡ explicit stmts w t s
@@ -344,7 +318,7 @@ fewer_tuples q stmts =
     same t = elim (cases_Bool (few t)) [
       | inl e ↦
           let here : is_member tuple_cmp all t ≡ true = listed stmts t ∙ list_any-filter_some (λ x. same_tuple x.tuple t) q stmts (sym (listed (filter q stmts) t) ∙ e) in
-          found_by_both (λ u. is_eq (tuple_cmp u t)) few (λ u k. ap few (tuple_exact.exact u t (is_eq-Equal (tuple_cmp u t) k)) ∙ e) all ∙ here ∙ sym e
+          list_any-filter_same (λ u. is_eq (tuple_cmp u t)) few (λ u k. ap few (tuple_exact.exact u t (is_eq-Equal (tuple_cmp u t) k)) ∙ e) all ∙ here ∙ sym e
       | inr e ↦ none all e ∙ sym e
     ]
       where

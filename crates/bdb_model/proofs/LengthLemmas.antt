@@ -1,5 +1,5 @@
 -- What is asked of one tuple depends on the length of its relation's key alone.
-use Rattle.std.proofs.Common.{◌≡◌, ◌∙◌, ℕ, Bool, true, not, ◌&&◌, ◌||◌, nat_eq, List, [], ◌∷◌, Some, cond, find, inl, inr, refl, ap, sym}
+use Rattle.std.proofs.Common.{◌≡◌, ◌∙◌, ℕ, true, not, ◌&&◌, ◌||◌, nat_eq, List, [], ◌∷◌, inl, inr, refl, ap, sym}
 use Rattle.std.specs.List.{list_any}
 use Rattle.std.proofs.lemmas.Bool.{cases_Bool, and_parts, eqb-true}
 use Rattle.bdb_base.specs.declared.kinds.Held.{Held}
@@ -10,9 +10,10 @@ use Rattle.bdb_base.specs.declared.tuple.Tuple.{Tuple}
 use Rattle.bdb_base.specs.Clash.{clash, same_key, key_of}
 use Rattle.bdb_base.specs.Same.{same_path, same_tuple, same_values}
 use Rattle.bdb_base.specs.Worlds.{explicit, contradicted, stated, believes, least_clash}
-use Rattle.bdb_base.proofs.ClashLemmas.{clash_by_length}
+use Rattle.bdb_base.proofs.ClashLemmas.{clash_by_length, clash_of}
+use Rattle.bdb_base.proofs.FindLemmas.{find_same}
+use Rattle.bdb_base.proofs.ListLemmas.{list_any_same}
 use Rattle.bdb_model.specs.Pools.{denies}
-use Rattle.bdb_model.proofs.LevelLemmas.{list_any_same}
 
 contradicted_by_length : (keys : ℕ → ℕ) (stmts : List Stmt) (w : List ℕ) (t : Tuple) (s : Sign) → contradicted (λ _. keys t.rel) stmts w t s ≡ contradicted keys stmts w t s
 contradicted_by_length keys stmts w t s =
@@ -49,19 +50,12 @@ believes_by_length keys stmts w t Minus =
     (list_any_same (λ x. clash (λ _. keys t.rel) t Plus x.tuple Plus && stated (λ _. keys t.rel) stmts w x.tuple Plus) (λ x. clash keys t Plus x.tuple Plus && stated keys stmts w x.tuple Plus)
     (λ x. rival_by_length keys stmts w t x.tuple) stmts)
 
-find_same : {X : Type 0} (p q : X → Bool) → ((x : X) → p x ≡ q x) → (xs : List X) → find p xs ≡ find q xs
-find_same p q h [] = refl
-find_same p q h (x ∷ xs) = ap (λ b. cond b (Some x) (find p xs)) (h x) ∙ ap (λ o. cond (q x) (Some x) o) (find_same p q h xs)
-
 pub least_clash_by_length : (keys : ℕ → ℕ) (stmts : List Stmt) (w : List ℕ) (t : Tuple) (s : Sign) → least_clash (λ _. keys t.rel) stmts w t s ≡ least_clash keys stmts w t s
 least_clash_by_length keys stmts w t s =
     find_same (λ x. same_path x.path w && clash (λ _. keys t.rel) t s x.tuple x.sign) (λ x. same_path x.path w && clash keys t s x.tuple x.sign)
     (λ x. ap (λ b. same_path x.path w && b) (clash_by_length keys t s x.tuple x.sign)) stmts
 
 -- ---- the same, from a length and statements that are handed on
-
-pub clash_of : (keys : ℕ → ℕ) (n : ℕ) (t : Tuple) (s : Sign) (u : Tuple) (r : Sign) → n ≡ keys t.rel → clash (λ _. n) t s u r ≡ clash keys t s u r
-clash_of keys n t s u r e = ap (λ k. clash (λ _. k) t s u r) e ∙ clash_by_length keys t s u r
 
 pub denies_of : (keys : ℕ → ℕ) (n : ℕ) (world : List Held) (t : Tuple) → n ≡ keys t.rel → denies (λ _. n) world t ≡ denies keys world t
 denies_of keys n world t e = list_any_same (λ h. clash (λ _. n) t Plus h.tuple h.sign) (λ h. clash keys t Plus h.tuple h.sign) (λ h. clash_of keys n t Plus h.tuple h.sign e) world

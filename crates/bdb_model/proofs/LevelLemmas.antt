@@ -17,22 +17,11 @@ use Rattle.bdb_base.specs.SortedSet.{is_member, put_in}
 use Rattle.bdb_base.specs.WorldRows.{row_at, rows_at, tuples_of, world_of}
 use Rattle.bdb_base.specs.Worlds.{explicit, contradicted, stated}
 use Rattle.bdb_base.proofs.ClashLemmas.{same_tuple_turned, same_key_turned}
-use Rattle.bdb_base.proofs.ListLemmas.{filter_dropped_one, filter_kept_one, or_false, or_move}
+use Rattle.bdb_base.proofs.ListLemmas.{filter_dropped_one, filter_kept_one, or_false, or_move, list_any_same}
 use Rattle.bdb_base.proofs.SetLemmas.{put_adds_member}
+use Rattle.bdb_base.proofs.BoolLemmas.{and_true, and_false}
 use Rattle.bdb_model.specs.LevelSets.{Sets}
 use Rattle.bdb_model.specs.Levels.{key_tuple, no_level, with_stated, with_all, level_of, level_if_any, levels_of, has_stated, refuses, stated_by, row_by, rows_by}
-
-pub and_true : (b : Bool) → (b && true) ≡ b
-and_true true = refl
-and_true false = refl
-
-pub and_false : (b : Bool) → (b && false) ≡ false
-and_false true = refl
-and_false false = refl
-
-pub list_any_same : {X : Type 0} (p q : X → Bool) → ((x : X) → p x ≡ q x) → (xs : List X) → list_any p xs ≡ list_any q xs
-list_any_same p q h [] = refl
-list_any_same p q h (x ∷ xs) = ap (λ b. b || list_any p xs) (h x) ∙ ap (λ b. q x || b) (list_any_same p q h xs)
 
 -- a level with a statement, where it is one of this very path
 abbrev grown : (ℕ → ℕ) → List ℕ → Sets → Stmt → Sets

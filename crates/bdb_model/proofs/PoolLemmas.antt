@@ -20,7 +20,8 @@ use Rattle.bdb_base.proofs.BaseLemmas.{belongs_parts}
 use Rattle.bdb_base.proofs.CountLemmas.{list_any-map}
 use Rattle.bdb_base.proofs.WorldLemmas.{stated_tuples_are_explicit, rival_from_clash, clash_from_rival, negations_are_believed}
 use Rattle.bdb_base.proofs.WorldRowsLemmas.{rows_are_the_world, same_row_from, same_row_tells}
-use Rattle.bdb_queries.proofs.FoundLemmas.{Found, found-map, found-filter, found_both, list_any-filter}
+use Rattle.bdb_base.proofs.FindLemmas.{list_any-filter}
+use Rattle.bdb_queries.proofs.FoundLemmas.{Found, found-map, found-filter, found_both}
 use Rattle.bdb_model.specs.Pools.{world_at, is_plus_of, plus_tuples, denies}
 use Rattle.bdb_queries.proofs.UserLemmas.{found_nowhere}
 use Rattle.bdb_queries.proofs.FoundLemmas.{found_with}

@@ -1,9 +1,8 @@
 -- The sources of a query's columns.
-use Rattle.std.proofs.Common.{◌≡◌, ◌∙◌, ℕ, ◌<◌, ◌≤◌, Bool, true, false, not, ◌&&◌, ◌||◌, nat_eq, List, [], ◌∷◌, ◌++◌, Option, None, Some, inl, inr, refl, ap, sym, length, filter, find, arith, ◌⊎◌, subst}
+use Rattle.std.proofs.Common.{◌≡◌, ◌∙◌, ℕ, ◌<◌, ◌≤◌, Bool, true, false, not, ◌&&◌, ◌||◌, List, [], ◌∷◌, ◌++◌, Option, None, Some, inl, inr, refl, ap, sym, length, filter, find, arith, ◌⊎◌, subst}
 use Rattle.std.specs.List.{list_any, list_all, slice_get}
 use Rattle.std.specs.Option.{option_map, is_some}
 use Rattle.std.proofs.lemmas.Bool.{cases_Bool, cond-true, cond-false, or_cases, or_left, or_right, and_parts, and_from}
-use Rattle.std.proofs.lemmas.Bool.Decides.{Decides-eqb}
 use Rattle.bdb_base.specs.declared.kinds.Cmp.{Cmp}
 use Rattle.bdb_base.specs.declared.kinds.Cmp.TheVariants.{Eq}
 use Rattle.bdb_base.specs.declared.kinds.Cond.{Cond}
@@ -19,8 +18,8 @@ use Rattle.bdb_base.specs.OrderLemmas.{is_eq_value_cmp}
 use Rattle.bdb_base.specs.Safety.{is_given, same_column, is_equality, is_column, is_literal, pins, links, IsBound, given, pinned, linked, equality, operand_columns, first_there}
 use Rattle.bdb_base.specs.SameLemmas.{same_value-Decides}
 use Rattle.bdb_base.proofs.WorldRowsLemmas.{list_any-flat_map}
+use Rattle.bdb_base.proofs.ConditionLemmas.{same_column_is, same_column_itself, equality_is, equal_sides}
 use Rattle.bdb_queries.specs.Slots.{known, known_operand, must_hold, must_all_hold}
-use Rattle.bdb_queries.proofs.RangeLemmas.{equality_is}
 use Rattle.bdb_model.specs.Sources.{source_of, source_in, source_of_operand, fresh_source, turned_source, source_from, next_source, is_simple, is_source, named_columns, missing, AreSources}
 
 -- ---- columns
@@ -31,22 +30,7 @@ cond_of l m o = record { left = l; cmp = m; right = o }
 abbrev ref_of : ℕ → ℕ → Ref
 ref_of i c = record { item = i; col = c }
 
-pub same_column_is : (r s : Ref) → same_column r s ≡ true → r ≡ s
-same_column_is r s e =
-    let k = and_parts (nat_eq r.item s.item) (nat_eq r.col s.col) e in
-    ap (λ i. ref_of i r.col) ((Decides-eqb r.item s.item).0 k.0) ∙ ap (λ c. ref_of s.item c) ((Decides-eqb r.col s.col).0 k.1)
-
-pub same_column_itself : (r : Ref) → same_column r r ≡ true
-same_column_itself r = and_from (nat_eq r.item r.item) (nat_eq r.col r.col) ((Decides-eqb r.item r.item).1 refl) ((Decides-eqb r.col r.col).1 refl)
-
 -- ---- equal comparisons
-
--- two values compare equal only where both are there and one
-pub equal_values : (x y : Option Value) → compare_so Eq x y ≡ true → (v : Value) × (x ≡ Some v) × (y ≡ Some v)
-equal_values None None e = cc
-equal_values None (Some b) e = cc
-equal_values (Some a) None e = cc
-equal_values (Some a) (Some b) e = (a, refl, ap Some (sym ((same_value-Decides a b).0 (sym (is_eq_value_cmp a b) ∙ e))))
 
 pub values_equal : (x y : Option Value) (v : Value) → x ≡ Some v → y ≡ Some v → compare_so Eq x y ≡ true
 values_equal x y v p q = ap (λ z. compare_so Eq z y) p ∙ ap (compare_so Eq (Some v)) q ∙ is_eq_value_cmp v v ∙ (same_value-Decides v v).1 refl
@@ -81,7 +65,7 @@ pub source_value : (items : List Item) (slots : List (Option Tuple)) (c : Cond) 
     → (v : Value) × (known slots c.left ≡ Some v) × (known_operand slots c.right ≡ Some v)
 source_value items slots c s h =
     let eq : c.cmp ≡ Eq = equality_is c.cmp (and_parts (is_equality c.cmp) (is_simple items c.right) s).0 in
-    equal_values (known slots c.left) (known_operand slots c.right) (ap (λ m. compare_so m (known slots c.left) (known_operand slots c.right)) (sym eq) ∙ h)
+    equal_sides (known slots c.left) (known_operand slots c.right) (ap (λ m. compare_so m (known slots c.left) (known_operand slots c.right)) (sym eq) ∙ h)
 
 -- where the sources hold, the source of a right side has its value
 pub source_has_value : (items : List Item) (sources : List Cond) (slots : List (Option Tuple)) → list_all (is_source items) sources ≡ true → must_all_hold slots sources ≡ true
@@ -172,7 +156,7 @@ from_left items sources c e s eq h =
       fresh = ap (λ d. is_some (source_in items sources d.left)) parts.1.2 ∙ parts.0;
       simple = ap (is_source items) parts.1.2 ∙ source_is_simple items sources s c.right src parts.1.1;
       holds = λ slots a b.
-          let both = equal_values (known slots c.left) (known_operand slots c.right) (ap (λ m. compare_so m (known slots c.left) (known_operand slots c.right)) (sym eq) ∙ a) in
+          let both = equal_sides (known slots c.left) (known_operand slots c.right) (ap (λ m. compare_so m (known slots c.left) (known_operand slots c.right)) (sym eq) ∙ a) in
           ap (must_hold slots) parts.1.2
           ∙ values_equal (known slots c.left) (known_operand slots src) both.0 both.1 (source_has_value items sources slots s b c.right src both.0 parts.1.1 both.2);
     }
@@ -188,7 +172,7 @@ from_right items sources l (Col r) e s h =
       fresh = ap (λ d. is_some (source_in items sources d.left)) parts.1.2 ∙ parts.0;
       simple = ap (is_source items) parts.1.2 ∙ source_is_simple items sources s (Col l) src parts.1.1;
       holds = λ slots a b.
-          let both = equal_values (known slots l) (known slots r) a in
+          let both = equal_sides (known slots l) (known slots r) a in
           ap (must_hold slots) parts.1.2
           ∙ values_equal (known slots r) (known_operand slots src) both.0 both.2 (source_has_value items sources slots s b (Col l) src both.0 parts.1.1 both.1);
     }

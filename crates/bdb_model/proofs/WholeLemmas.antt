@@ -20,9 +20,11 @@ use Rattle.bdb_base.specs.declared.kinds.Who.{Who}
 use Rattle.bdb_base.specs.declared.kinds.Who.TheVariants.{User, Of}
 use Rattle.bdb_base.specs.declared.tuple.Tuple.{Tuple}
 use Rattle.bdb_base.specs.Bases.{Contents, is_valid_relation, fits_kind, fits_columns, fits_definition, fits_relation}
-use Rattle.bdb_base.specs.Queries.{columns_of_definition, columns_at, path_believes}
+use Rattle.bdb_base.specs.Queries.{columns_at, path_believes}
 use Rattle.bdb_base.specs.Safety.{is_given, is_minus, is_users_item, who_fits, fixed_differ, item_fits, item_kinds, column_kind, is_equality, IsSafe}
 use Rattle.bdb_base.specs.Same.{tuple_of}
+use Rattle.bdb_base.proofs.OptionLemmas.{some_of}
+use Rattle.bdb_base.proofs.BaseLemmas.{fits_its_columns}
 use Rattle.bdb_queries.proofs.FoundLemmas.{Found, found_first}
 use Rattle.bdb_queries.proofs.RangeLemmas.{column_there}
 use Rattle.bdb_model.specs.Answering.{open_slots}
@@ -104,10 +106,6 @@ not_given (Some (Users alias)) h = absurd (false≢true h)
 not_given (Some (Rel alias rel Plus path)) h = absurd (false≢true h)
 not_given (Some (Rel alias rel Minus path)) h = refl
 
-some_there : {X : Type 0} (o : Option X) → is_some o ≡ true → (x : X) × (o ≡ Some x)
-some_there None h = absurd (false≢true h)
-some_there (Some x) h = (x, refl)
-
 -- the value of a minus item's column is that of its source
 pub minus_value : (rels : List RelDef) (q : Query) (sources : List Cond) (xs : List (Option Tuple)) → IsSafe rels q → AreSources q sources → must_all_hold xs q.conds ≡ true
     → (r : Ref) (v : Value) → is_minus (slice_get q.items r.item) ≡ true → is_some (column_kind rels q.items r) ≡ true → known xs r ≡ Some v
@@ -115,7 +113,7 @@ pub minus_value : (rels : List RelDef) (q : Query) (sources : List Cond) (xs : L
 minus_value rels q sources xs safe are h r v m there e =
     let bound = are.whole r (safe r (record { minus = m; there = there })) in
     let own : source_in q.items sources r ≡ source_of sources r = cond-false (is_given (slice_get q.items r.item)) (Some (Col r)) (source_of sources r) (not_given (slice_get q.items r.item) m) in
-    let src = some_there (source_of sources r) (ap is_some (sym own) ∙ bound) in
+    let src = some_of (source_of sources r) (ap is_some (sym own) ∙ bound) in
     let found = found_source r sources src.0 src.1 in
     let c = found.0 in
     let source : is_source q.items c ≡ true = found.3 (is_source q.items) are.simple in
@@ -146,11 +144,6 @@ values_from sources slots at col (c ∷ cs) (v ∷ vs) f h =
   where
     moved : (col n : ℕ) → col + suc n ≡ (col + 1) + n
     moved col n = omega arith
-
--- a definition that fits is there
-fits_its_columns : (def : Option RelDef) (vals : List Value) → fits_definition def vals ≡ true → fits_columns (columns_of_definition def) vals ≡ true
-fits_its_columns None vals h = absurd (false≢true h)
-fits_its_columns (Some def) vals h = h
 
 -- a tuple that fits a relation of a catalog has a value
 has_value : (rels : List RelDef) (rel : ℕ) (vals : List Value) → list_all is_valid_relation rels ≡ true → fits_definition (slice_get rels rel) vals ≡ true → nat_lt 0 (length vals) ≡ true

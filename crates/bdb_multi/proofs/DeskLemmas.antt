@@ -6,7 +6,7 @@ use Rattle.std.proofs.lemmas.List.{get_or-set_same, get_or-set_other, get_or_def
 use Rattle.bdb_multi.specs.declared.kinds.Line.{Line}
 use Rattle.bdb_multi.specs.declared.kinds.Event.{Event}
 use Rattle.bdb_multi.specs.Sessions.{Commands, sessions, mine, open_batch, act_after, AreSessions}
-use Rattle.bdb_multi.specs.Slots.{queue_of, slot, StandsFor, slot_act, slot_after}
+use Rattle.bdb_multi.specs.Slots.{queue_of, slot, AreSlotsOf, slot_act, slot_after}
 use Rattle.bdb_multi.specs.Batches.{open_by}
 use Rattle.bdb_multi.proofs.SessionLemmas.{open_more, none_open, mine_more, mine_same, slot_acts, slot_goes_on}
 
@@ -20,17 +20,17 @@ none_at zero n = refl
 none_at (suc m) zero = refl
 none_at (suc m) (suc n) = none_at m n
 
-pub nothing_stands : StandsFor (nones 16) []
+pub nothing_stands : AreSlotsOf (nones 16) []
 nothing_stands n lt = none_at 16 n ∙ sym (ap queue_of none_open)
 
 -- the act of an event
-pub act_is : (slots : List (Option Commands)) (es : List Event) (e : Event) → e.session < sessions → StandsFor slots es
+pub act_is : (slots : List (Option Commands)) (es : List Event) (e : Event) → e.session < sessions → AreSlotsOf slots es
     → slot_act (slot slots e.session) e.line ≡ act_after es e
 act_is slots es e lt stands = ap (λ s. slot_act s e.line) (stands e.session lt) ∙ slot_acts (open_batch (mine e.session es)) e.line
 
 -- the slots with an event more
-pub stands_on : (slots : List (Option Commands)) (es : List Event) (e : Event) → e.session < sessions → length slots ≡ 16 → StandsFor slots es
-    → StandsFor (set slots e.session (slot_after (slot slots e.session) e.line)) (es ++ e ∷ [])
+pub stands_on : (slots : List (Option Commands)) (es : List Event) (e : Event) → e.session < sessions → length slots ≡ 16 → AreSlotsOf slots es
+    → AreSlotsOf (set slots e.session (slot_after (slot slots e.session) e.line)) (es ++ e ∷ [])
 stands_on slots es e lt len stands n below = elim (cases_Bool (nat_eq e.session n)) [
   | inl h ↦
       let same : e.session ≡ n = eqb-true e.session n h in
@@ -53,13 +53,13 @@ read_is slots n d lt len = let within : n < length slots = omega (arith, lt, len
 
 -- the same of what a desk holds: the act
 pub act_at : (slots now : List (Option Commands)) (es : List Event) (n : ℕ) (l : Line) (d : Option Commands) → n < sessions → length slots ≡ 16
-    → slots ≡ now → StandsFor now es → slot_act (get_or slots n d) l ≡ act_after es (record { session = n; line = l })
+    → slots ≡ now → AreSlotsOf now es → slot_act (get_or slots n d) l ≡ act_after es (record { session = n; line = l })
 act_at slots now es n l d lt len is stands =
     ap (λ s. slot_act s l) (read_is slots n d lt len) ∙ (ap (λ s. slot_act (slot s n) l) is ∙ act_is now es (record { session = n; line = l }) lt stands)
 
 -- and the slots
 pub stands_at : (slots now : List (Option Commands)) (es : List Event) (n : ℕ) (l : Line) (d new : Option Commands) → n < sessions → length slots ≡ 16
-    → slots ≡ now → StandsFor now es → new ≡ slot_after (get_or slots n d) l → StandsFor (set slots n new) (es ++ record { session = n; line = l } ∷ [])
+    → slots ≡ now → AreSlotsOf now es → new ≡ slot_after (get_or slots n d) l → AreSlotsOf (set slots n new) (es ++ record { session = n; line = l } ∷ [])
 stands_at slots now es n l d new lt len is stands after m below =
     ap (λ s. slot (set slots n s) m) (after ∙ ap (λ s. slot_after s l) (read_is slots n d lt len))
     ∙ (ap (λ x. slot (set x n (slot_after (slot x n) l)) m) is

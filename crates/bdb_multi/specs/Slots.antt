@@ -17,8 +17,8 @@ abbrev pub slot : List (Option Commands) → ℕ → Option Commands
 slot slots n = get_or slots n None
 
 -- the slots stand for events: each has what is kept of the batch that these leave open
-abbrev pub StandsFor : List (Option Commands) → List Event → Type 0
-StandsFor slots events = (n : ℕ) → n < sessions → slot slots n ≡ queue_of (open_batch (mine n events))
+abbrev pub AreSlotsOf : List (Option Commands) → List Event → Type 0
+AreSlotsOf slots events = (n : ℕ) → n < sessions → slot slots n ≡ queue_of (open_batch (mine n events))
 
 -- what becomes of a line, by what is kept
 abbrev pub slot_act : Option Commands → Line → Act

@@ -2,7 +2,7 @@
 ghost use Rattle.std.specs.Prelude.{◌≡◌, ◌<◌, [], ◌∷◌, ◌++◌, Some, IfOk, OnOk, OnErr};
 ghost use Rattle.bdb_multi.specs.declared.kinds.Event.{Event};
 ghost use Rattle.bdb_multi.specs.Sessions.{sessions, act_after};
-ghost use Rattle.bdb_multi.specs.Slots.{StandsFor, slot_act, slot_after, with_command};
+ghost use Rattle.bdb_multi.specs.Slots.{AreSlotsOf, slot_act, slot_after, with_command};
 
 use crate::kinds::{Act, Line, Lines};
 use bdb_base::List;
@@ -15,7 +15,7 @@ pub const SESSIONS: usize = 16;
 /// How many commands wait in a batch, at most.
 pub const MOST_QUEUED: usize = 64;
 
-/// The open batches of sessions. Contracts see for each session the commands that wait, and `StandsFor` tells of which events.
+/// The open batches of sessions. Contracts see for each session the commands that wait, and `AreSlotsOf` tells of which events.
 #[derive(Drop)]
 pub struct Desk {
     slots: [Option<Lines>; 16],
@@ -35,7 +35,7 @@ impl Model for Desk {
 impl Desk {
     /// A desk with no open batch. It takes no memory.
     pub fn new(alloc: Global) -> Self
-        ensures { StandsFor result [] }
+        ensures { AreSlotsOf result [] }
     {
         Desk {
             slots: [
@@ -50,10 +50,10 @@ impl Desk {
     /// and this one. The only error is running out of memory, and the desk is unchanged then.
     pub fn step(&mut self, session: u8, line: Line) -> Result<Act, AllocError>
         requires { session < sessions }
-        ensures act { (es : List Event) → StandsFor self.old es
+        ensures act { (es : List Event) → AreSlotsOf self.old es
             → IfOk result (λ act. act ≡ act_after es (record { session = session; line = line })) }
-        ensures stands { OnOk result ((es : List Event) → StandsFor self.old es
-            → StandsFor self.new (es ++ record { session = session; line = line } ∷ [])) }
+        ensures stands { OnOk result ((es : List Event) → AreSlotsOf self.old es
+            → AreSlotsOf self.new (es ++ record { session = session; line = line } ∷ [])) }
         ensures same { OnErr result (self.new ≡ self.old) }
     {
         step_slot(self.alloc, &mut self.slots[session as usize], line)

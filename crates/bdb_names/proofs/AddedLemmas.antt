@@ -2,6 +2,7 @@
 use Rattle.std.proofs.Common.{◌≡◌, ◌∙◌, ℕ, ◌<◌, ◌^◌, Bool, true, false, not, ◌&&◌, ◌||◌, nat_eq, cond, List, [], ◌∷◌, ◌++◌, refl, ap, sym, inl, inr, length, map, Option, Some, None}
 use Rattle.std.specs.List.{AllByRecursion}
 use Rattle.std.proofs.lemmas.Bool.{cases_Bool, and_parts, and_left, and_right, or_parts, or_left, or_right, false≢true, false_from_ne_true, cond-true, cond-false, not-true, eqb-true, eq-eqb}
+use Rattle.bdb_base.specs.OrderLemmas.{is_eq_nat_cmp}
 use Rattle.bdb_keep.specs.Tables.{Tables}
 use Rattle.bdb_key.specs.Grammar.{IsNum}
 use Rattle.bdb_tables.specs.InUse.{depth_codec, link_codec, linked_codec, edge_codec, led_codec}
@@ -14,7 +15,7 @@ use Rattle.bdb_names.specs.Moves.{IsLeaf, edge_gains, link_gains, at_path, edge_
 use Rattle.bdb_names.specs.Turned.{link_set, with_link, links_led, with_links, edge_set, with_edge, edges_led, with_edges, edges_made, look, state_made}
 use Rattle.bdb_names.proofs.MoreLemmas.{depths_more, links_more, edges_more, names_more, own_more}
 use Rattle.bdb_names.proofs.NameLemmas.{edge_at_none, link_at_none}
-use Rattle.bdb_names.proofs.TurnedLemmas.{link_set_is, edge_set_is, tables_same, number_eq}
+use Rattle.bdb_names.proofs.TurnedLemmas.{link_set_is, edge_set_is, tables_same}
 
 abbrev no_number : Option ℕ
 no_number = None
@@ -34,7 +35,7 @@ first w ws = or_left (nat_eq w w) (is_listed w ws) (eq-eqb w w refl)
 another : (w : ℕ) (ws : List ℕ) (k : ℕ) → not (is_listed w ws) ≡ true → is_listed k ws ≡ true → nat_eq k w ≡ false
 another w ws k h e = false_from_ne_true (nat_eq k w) (λ t. false≢true (sym (not-true (is_listed w ws) h) ∙ ap (λ x. is_listed x ws) (sym (eqb-true k w t)) ∙ e))
 
-links_join : (b c : Bool) (x y : Option ℕ) → cond c x (cond b x y) ≡ cond (b || c) x y
+pub links_join : (b c : Bool) (x y : Option ℕ) → cond c x (cond b x y) ≡ cond (b || c) x y
 links_join true true x y = refl
 links_join true false x y = refl
 links_join false c x y = refl
@@ -122,7 +123,7 @@ pub state_made_is : (t : Tables) (d l : ℕ → Option ℕ) (e : ℕ × ℕ → 
 state_made_is t d l e n depth s size deep to none h =
     link_set_is (with_change depth_codec t (n, Some depth)) (with_link d n (Some depth)) l e None (Some s) n size to none
     (record {
-      depth = gives_same depth_codec _ (with_row_at depth_codec d (n, Some depth)) (with_link d n (Some depth)) (λ q _. ap (λ b. cond b (Some depth) (d q)) (number_eq q n))
+      depth = gives_same depth_codec _ (with_row_at depth_codec d (n, Some depth)) (with_link d n (Some depth)) (λ q _. ap (λ b. cond b (Some depth) (d q)) (is_eq_nat_cmp q n))
           (change_gives depth_codec numbers_in_order t d (n, Some depth) (record { key = size; row = deep }) h.depth);
       link = change_elsewhere link_codec depth_codec (λ x. cc) t l (n, Some depth) h.link;
       linked = change_elsewhere linked_codec depth_codec (λ x. cc) t _ (n, Some depth) h.linked;

@@ -6,7 +6,8 @@ use Rattle.bdb_base.specs.Same.{same_path}
 use Rattle.bdb_base.specs.SameLemmas.{same_path-Decides}
 use Rattle.bdb_base.specs.Segments.{is_suffix}
 use Rattle.bdb_base.specs.States.{deepest_suffix}
-use Rattle.bdb_paths.proofs.SuffixLemmas.{deepest_here, deepest_past, suffix_itself, length-suffix, length-deepest, deepest_is_suffix, none_is_longer}
+use Rattle.bdb_base.proofs.SegmentLemmas.{suffix_itself, length-suffix}
+use Rattle.bdb_paths.proofs.SuffixLemmas.{deepest_here, deepest_past, length-deepest, deepest_is_suffix, none_is_longer}
 
 -- ---- ends
 
@@ -98,10 +99,6 @@ own_end w i j = elim (cases_Bool (nat_eq j i)) [
   | inl e ↦ ap (λ k. is_suffix (k ∷ []) (w ++ i ∷ [])) (eqb-true j i e) ∙ ends_with w (i ∷ []) ∙ sym e
   | inr e ↦ false_from_ne_true (is_suffix (j ∷ []) (w ++ i ∷ [])) (λ t. false≢true (sym e ∙ eq-eqb j i (more_is_end [] w j i t).0)) ∙ sym e
 ]
-
-empty_differs : (w : List ℕ) (i : ℕ) → same_path [] (w ++ i ∷ []) ≡ false
-empty_differs [] i = refl
-empty_differs (j ∷ w) i = refl
 
 -- a path that may be longer by a user doesn't end in the user
 pub no_own_end : (w : List ℕ) (i : ℕ) → alternates (w ++ i ∷ []) ≡ true → is_suffix (i ∷ []) w ≡ false

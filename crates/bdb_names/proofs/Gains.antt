@@ -5,7 +5,8 @@ use Rattle.bdb_base.specs.Same.{same_path}
 use Rattle.bdb_base.specs.SameLemmas.{same_path-Decides}
 use Rattle.bdb_base.specs.Segments.{is_suffix}
 use Rattle.bdb_base.specs.States.{HasPrefixes, deepest_suffix}
-use Rattle.bdb_paths.proofs.SuffixLemmas.{deepest_past, deepest_of_member, deepest_is_member, suffix_itself, length-deepest, deepest_is_suffix, none_is_longer, suffixes_extend}
+use Rattle.bdb_base.proofs.SegmentLemmas.{suffix_itself}
+use Rattle.bdb_paths.proofs.SuffixLemmas.{deepest_past, deepest_of_member, deepest_is_member, length-deepest, deepest_is_suffix, none_is_longer, suffixes_extend}
 use Rattle.bdb_names.specs.Moves.{gains}
 use Rattle.bdb_names.proofs.Ends.{front_of, ends_with, suffix_then, length_more, suffix_more, end_of_more, more_is_end, deep_behind, deep_has, deep_is_shorter}
 

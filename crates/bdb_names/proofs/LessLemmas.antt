@@ -3,17 +3,19 @@ use Rattle.std.proofs.Common.{◌≡◌, ◌∙◌, ℕ, Bool, true, false, not,
 use Rattle.std.specs.Option.{is_some, option_map}
 use Rattle.std.specs.List.{list_all}
 use Rattle.std.proofs.lemmas.Bool.{cases_Bool, and_parts, and_from, and_left, and_right, false≢true, false_from_ne_true, cond-true, cond-false, not-true, eqb-true, eq-eqb, ne_eqb, eqb-false}
+use Rattle.std.proofs.lemmas.List.{append-nil}
 use Rattle.bdb_base.specs.Alternation.{tail}
 use Rattle.bdb_base.specs.Same.{same_path}
 use Rattle.bdb_base.specs.SameLemmas.{same_path-Decides}
 use Rattle.bdb_base.specs.Segments.{is_suffix}
 use Rattle.bdb_base.specs.States.{deepest_suffix}
 use Rattle.bdb_base.proofs.ListLemmas.{length-filter_le}
+use Rattle.bdb_base.proofs.OptionLemmas.{none_is_some, same_some}
 use Rattle.bdb_paths.specs.PathLaws.{without_path}
 use Rattle.bdb_paths.proofs.SuffixLemmas.{deepest_same, length-deepest, suffixes_lose}
 use Rattle.bdb_tables.specs.Names.{Names, AreNames, path_of, number_of, is_named, is_listed, are_once, leads_to, without_name, depth_of, link_of, edge_of}
 use Rattle.bdb_names.specs.Drops.{IsLast, led_past}
-use Rattle.bdb_names.proofs.NameLemmas.{same_some, none_is_some, same_number, deep_number, link_at, link_at_root, link_at_none, link_found, IsLinked, edge_at, edge_at_none}
+use Rattle.bdb_names.proofs.NameLemmas.{same_number, deep_number, link_at, link_at_root, link_at_none, link_found, IsLinked, edge_at, edge_at_none}
 
 abbrev no_number : Option ℕ
 no_number = None
@@ -47,10 +49,6 @@ once-filter f (x ∷ xs) h = let k = and_parts (not (is_listed x xs)) (are_once 
 cond_past : (b : Bool) (n s : ℕ) (o : Option ℕ) → cond b (led_past n s o) no_number ≡ led_past n s (cond b o no_number)
 cond_past true n s o = refl
 cond_past false n s o = refl
-
-none_behind : (w : List ℕ) → w ++ [] ≡ w
-none_behind [] = refl
-none_behind (j ∷ w) = ap (λ (x : List ℕ). j ∷ x) (none_behind w)
 
 module _ (ns : Names) (p : List ℕ) (n s : ℕ) (gone : IsLast ns p n s) where
   abbrev P : List ℕ → Bool
@@ -155,7 +153,7 @@ module _ (ns : Names) (p : List ℕ) (n s : ℕ) (gone : IsLast ns p n s) where
   beginning_stays [] e f = false≢true (sym f ∙ (same_path-Decides (p ++ []) p).1 append_nil)
     where
       append_nil : p ++ [] ≡ p
-      append_nil = none_behind p
+      append_nil = append-nil p
   beginning_stays (j ∷ b) e f = false≢true (sym (gone.last j) ∙ gone.names.prefixes (p ++ j ∷ []) b (ap P (append_assoc p (j ∷ []) b) ∙ e))
 
   pub names_less : AreNames less

@@ -4,11 +4,6 @@ use Rattle.std.proofs.lemmas.Bool.{and_parts, and_from, or_left, or_right, or_pa
 use Rattle.bdb_base.proofs.ListLemmas.{or_false}
 use Rattle.bdb_tables.specs.Names.{is_listed, are_once}
 
-pub both_ways_true : (a b : Bool) → (a ≡ true → b ≡ true) → (b ≡ true → a ≡ true) → a ≡ b
-both_ways_true true b f g = sym (f refl)
-both_ways_true false true f g = g refl
-both_ways_true false false f g = refl
-
 pub take_snoc : (ss : List ℕ) (k at v : ℕ) → slice_get ss at ≡ Some v → take at (ss ++ k ∷ []) ≡ take at ss
 take_snoc [] k at v e = absurd cc
 take_snoc (x ∷ ss) k zero v e = refl

@@ -2,19 +2,21 @@
 use Rattle.std.proofs.Common.{◌≡◌, ◌∙◌, ℕ, ◌<◌, ◌^◌, Bool, true, false, not, ◌&&◌, ◌||◌, nat_eq, cond, List, [], ◌∷◌, ◌++◌, refl, ap, sym, subst, inl, inr, ◌⊎◌, arith, length, Option, Some, None}
 use Rattle.std.specs.Option.{is_some, option_map}
 use Rattle.std.specs.List.{list_all}
-use Rattle.std.proofs.lemmas.Bool.{cases_Bool, and_parts, and_from, and_left, and_right, or_cases, or_left, or_right, false_from_ne_true, cond-true, cond-false, eqb-true, eq-eqb, ne_eqb, eqb-false}
+use Rattle.std.proofs.lemmas.Bool.{cases_Bool, and_from, and_left, and_right, or_cases, or_left, or_right, false_from_ne_true, cond-true, cond-false, eqb-true, eq-eqb, ne_eqb, eqb-false}
 use Rattle.bdb_base.specs.Alternation.{alternates}
 use Rattle.bdb_base.specs.Same.{same_path}
 use Rattle.bdb_base.specs.SameLemmas.{same_path-Decides}
 use Rattle.bdb_base.specs.Segments.{is_suffix}
 use Rattle.bdb_base.specs.States.{deepest_suffix, edge_target}
-use Rattle.bdb_base.proofs.ListLemmas.{or_false}
+use Rattle.bdb_base.proofs.ListLemmas.{or_false, list_all_push}
+use Rattle.bdb_base.proofs.OptionLemmas.{none_is_some, same_some}
+use Rattle.bdb_base.proofs.SegmentLemmas.{length-suffix}
 use Rattle.bdb_paths.specs.PathLaws.{with_path}
-use Rattle.bdb_paths.proofs.SuffixLemmas.{deepest_same, deepest_past, deepest_is_suffix, length-suffix, suffixes_gain, suffixes_extend}
+use Rattle.bdb_paths.proofs.SuffixLemmas.{deepest_same, deepest_past, deepest_is_suffix, suffixes_gain, suffixes_extend}
 use Rattle.bdb_tables.specs.Names.{Names, AreNames, path_of, number_of, is_named, is_listed, are_once, with_name, depth_of, link_of, edge_of}
 use Rattle.bdb_names.specs.Moves.{IsLeaf, gains, edge_gains, link_gains, at_path, edge_moves, link_moves}
 use Rattle.bdb_names.proofs.Ends.{more_is_end, own_end, ends_otherwise}
-use Rattle.bdb_names.proofs.NameLemmas.{same_some, none_is_some, is_named_by, root_is_named, deep_is_named, named_otherwise, depth_at, link_at, link_at_root, link_at_none, edge_at, edge_at_none}
+use Rattle.bdb_names.proofs.NameLemmas.{is_named_by, root_is_named, deep_is_named, named_otherwise, depth_at, link_at, link_at_root, link_at_none, edge_at, edge_at_none}
 
 abbrev no_number : Option ℕ
 no_number = None
@@ -42,10 +44,6 @@ begins_more (x ∷ a) b (y ∷ q) i e =
       | inl s ↦ inl (ap (λ (z : List ℕ). x ∷ z) s ∙ ap (λ n. n ∷ (q ++ i ∷ [])) h)
       | inr c ↦ inr (c.0, ap (λ (z : List ℕ). y ∷ z) c.1 ∙ ap (λ n. n ∷ (a ++ c.0)) (sym h))
     ]
-
-list_all-more : (f : ℕ → Bool) (q : List ℕ) (i : ℕ) → list_all f q ≡ true → f i ≡ true → list_all f (q ++ i ∷ []) ≡ true
-list_all-more f [] i h e = and_from (f i) true e refl
-list_all-more f (x ∷ q) i h e = let k = and_parts (f x) (list_all f q) h in and_from (f x) (list_all f (q ++ i ∷ [])) k.0 (list_all-more f q i k.1 e)
 
 module _ (users : ℕ → Bool) (ns : Names) (q : List ℕ) (i m s : ℕ) (leaf : IsLeaf users ns q i m s) (n : ℕ) (free : path_of ns n ≡ None) where
   abbrev P : List ℕ → Bool
@@ -231,5 +229,5 @@ module _ (users : ℕ → Bool) (ns : Names) (q : List ℕ) (i m s : ℕ) (leaf 
   pub own_more : ((w : List ℕ) → P w ≡ true → list_all users w ≡ true) → (w : List ℕ) → is_named more w ≡ true → list_all users w ≡ true
   own_more own w e = elim (or_cases (P w) (same_path w p) (sym (is_named_more w) ∙ e)) [
     | inl t ↦ own w t
-    | inr t ↦ ap (list_all users) ((same_path-Decides w p).0 t) ∙ list_all-more users q i (own q (is_named_by ns q m leaf.start)) leaf.user
+    | inr t ↦ ap (list_all users) ((same_path-Decides w p).0 t) ∙ list_all_push users q i (own q (is_named_by ns q m leaf.start)) leaf.user
   ]

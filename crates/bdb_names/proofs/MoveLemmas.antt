@@ -5,12 +5,14 @@ use Rattle.std.proofs.lemmas.Bool.{and_parts, and_from, or_right, false≢true, 
 use Rattle.bdb_base.specs.Same.{same_path}
 use Rattle.bdb_base.specs.Segments.{is_suffix}
 use Rattle.bdb_base.specs.States.{deepest_suffix}
-use Rattle.bdb_paths.proofs.SuffixLemmas.{deepest_of_member, deepest_is_suffix, length-suffix, suffix_itself}
+use Rattle.bdb_base.proofs.OptionLemmas.{same_some}
+use Rattle.bdb_base.proofs.SegmentLemmas.{suffix_itself, length-suffix}
+use Rattle.bdb_paths.proofs.SuffixLemmas.{deepest_of_member, deepest_is_suffix}
 use Rattle.bdb_tables.specs.Names.{Names, path_of, number_of, is_named, link_of, edge_of}
 use Rattle.bdb_names.specs.Moves.{IsLeaf, gains, edge_gains, link_gains, at_path, edge_moves, link_moves}
 use Rattle.bdb_names.proofs.Ends.{suffix_then, length_more, one_more, no_own_end, ends_otherwise}
 use Rattle.bdb_names.proofs.Gains.{Gains, gains_parts, gains_from, gains_led, new_gains, front_ends, child_gains, child_met, gains_below, gains_met}
-use Rattle.bdb_names.proofs.NameLemmas.{same_some, is_named_by, number_is, root_is_named, path_is_named, same_number, deep_number, link_at, link_found, IsLinked, edge_at, edge_is, edge_found}
+use Rattle.bdb_names.proofs.NameLemmas.{is_named_by, number_is, root_is_named, path_is_named, same_number, deep_number, link_at, link_found, IsLinked, edge_at, edge_is, edge_found}
 
 cond_and : (b g : Bool) (x y : Option ℕ) → cond b (cond g x y) None ≡ cond (b && g) x (cond b y None)
 cond_and true g x y = refl

@@ -4,8 +4,9 @@ use Rattle.std.specs.Prelude.{MatchOption}
 use Rattle.std.specs.Option.{option_map}
 use Rattle.std.specs.List.{list_all}
 use Rattle.std.specs.FinMap as map
-use Rattle.std.proofs.lemmas.Bool.{and_parts, false≢true, eqb-true, eq-eqb}
+use Rattle.std.proofs.lemmas.Bool.{and_parts, false≢true, eq-eqb}
 use Rattle.bdb_base.specs.States.{deepest_suffix}
+use Rattle.bdb_base.proofs.OptionLemmas.{same_some}
 use Rattle.bdb_paths.proofs.SuffixLemmas.{deepest_is_suffix, deepest_of_member}
 use Rattle.bdb_keep.specs.Tables.{Tables}
 use Rattle.bdb_key.specs.Bytes.{num_bytes}
@@ -15,8 +16,9 @@ use Rattle.bdb_tables.specs.Codec.{place}
 use Rattle.bdb_tables.specs.InUse.{depth_codec}
 use Rattle.bdb_tables.specs.Names.{Names, path_of, number_of, is_named, leads_to, depth_of, edge_of}
 use Rattle.bdb_tables.specs.States.{row_where, HoldsStates, IsNextWorld, IsNamed, root, next, TablesHaveNames, NamesAreOne}
+use Rattle.bdb_tables.proofs.Held.{leads_is, row_is}
 use Rattle.bdb_names.proofs.Ends.{whole_end, length_more, no_own_end}
-use Rattle.bdb_names.proofs.NameLemmas.{same_some, number_is, path_is_named, depth_at, edge_at, edge_is, edge_found}
+use Rattle.bdb_names.proofs.NameLemmas.{number_is, path_is_named, depth_at, edge_at, edge_is, edge_found}
 
 pub cases_end : (w : List ℕ) → (w ≡ []) ⊎ ((v : List ℕ) × (i : ℕ) × (w ≡ v ++ i ∷ []))
 cases_end [] = inl refl
@@ -28,14 +30,6 @@ cases_end (j ∷ w) = elim (cases_end w) [
 pub user_of_end : (users : ℕ → Bool) (v : List ℕ) (i : ℕ) → list_all users (v ++ i ∷ []) ≡ true → users i ≡ true
 user_of_end users [] i h = (and_parts (users i) true h).0
 user_of_end users (j ∷ v) i h = user_of_end users v i (and_parts (users j) (list_all users (v ++ i ∷ [])) h).1
-
-leads_is : (o : Option ℕ) (n : ℕ) → leads_to o n ≡ true → o ≡ Some n
-leads_is None n h = absurd (false≢true h)
-leads_is (Some m) n h = ap Some (eqb-true m n h)
-
-row_is : (b : Bool) (x : List ℕ) → option_map (λ (u : Unit {0}). x) (row_where b) ≡ Some x → b ≡ true
-row_is true x e = refl
-row_is false x e = absurd cc
 
 row_there : (b : Bool) (x : List ℕ) → b ≡ true → option_map (λ (u : Unit {0}). x) (row_where b) ≡ Some x
 row_there true x e = refl

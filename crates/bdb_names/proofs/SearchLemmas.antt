@@ -1,12 +1,13 @@
 -- The search for what a new world takes over: down the tree of suffix links, past each world whose edge moves.
 use Rattle.std.proofs.Common.{◌≡◌, ◌∙◌, ℕ, ◌≤◌, ◌<◌, Bool, true, false, nat_eq, cond, List, [], ◌∷◌, ◌++◌, refl, ap, sym, subst, inl, inr, ◌⊎◌, suc, zero, arith, length, take, slice_get, Option, Some, None}
 use Rattle.std.proofs.lemmas.Bool.{cases_Bool, or_left, or_right, or_cases, false≢true, false_from_ne_true, cond-true, cond-false, eqb-true, eq-eqb, eqb-false, cases_lt}
+use Rattle.bdb_base.proofs.BoolLemmas.{same_tests}
+use Rattle.bdb_base.proofs.OptionLemmas.{same_some}
 use Rattle.bdb_tables.specs.Names.{Names, path_of, is_listed, are_once, link_of, edge_of}
 use Rattle.bdb_names.specs.Moves.{IsLeaf, AreMovers, edge_moves, link_moves}
 use Rattle.bdb_names.specs.Search.{sources_after, met_after}
-use Rattle.bdb_names.proofs.ListedLemmas.{both_ways_true, take_snoc, get_snoc, listed_get, listed_take, once_at, listed_snoc, once_snoc, take_whole}
+use Rattle.bdb_names.proofs.ListedLemmas.{take_snoc, get_snoc, listed_get, listed_take, once_at, listed_snoc, once_snoc, take_whole}
 use Rattle.bdb_names.proofs.MoveLemmas.{start_moves, child_edge_moves, child_link_moves, met_by_one, start_no_child, edge_moves_parts, edge_is_found, link_is_found}
-use Rattle.bdb_names.proofs.NameLemmas.{same_some}
 
 module _ (users : ℕ → Bool) (ns : Names) (q : List ℕ) (i m s : ℕ) (leaf : IsLeaf users ns q i m s) where
   abbrev pub edge : ℕ → Option ℕ
@@ -266,8 +267,8 @@ module _ (users : ℕ → Bool) (ns : Names) (q : List ℕ) (i m s : ℕ) (leaf 
 
   pub search_ends : (ss ms : List ℕ) (at low : ℕ) → IsSearch ss ms at low → length ss ≤ at → AreMovers users ns q i ss ms
   search_ends ss ms at low search all = record {
-    edges = λ k. both_ways_true (is_listed k ss) (edge_moves users ns q i k) (search.sources_move k) (λ h. let e = edge_moves_parts users ns q i m s leaf k h in found (length e.front) k e.front (omega arith) e.path h);
-    links = λ x. both_ways_true (is_listed x ms) (link_moves ns q i x) (search.met_move x) (λ h.
+    edges = λ k. same_tests (is_listed k ss) (edge_moves users ns q i k) (search.sources_move k) (λ h. let e = edge_moves_parts users ns q i m s leaf k h in found (length e.front) k e.front (omega arith) e.path h);
+    links = λ x. same_tests (is_listed x ms) (link_moves ns q i x) (search.met_move x) (λ h.
         let e = link_is_found users ns q i m s leaf x h in
         let g = edge_moves_parts users ns q i m s leaf e.target e.moves in
         (search.noted e.target e.child (inl (ap (is_listed e.target) (take_whole ss at all) ∙ found (length g.front) e.target g.front (omega arith) g.path e.moves)) e.link).met x e.edge e.other);

@@ -1,11 +1,9 @@
 -- What tables have after links and edges have changed.
-use Rattle.std.proofs.Common.{◌≡◌, ◌∙◌, ℕ, Bool, true, false, ◌&&◌, nat_eq, cond, refl, ap, sym, subst, inl, inr, arith, Option, Some, None}
+use Rattle.std.proofs.Common.{◌≡◌, ◌∙◌, ℕ, Bool, true, false, ◌&&◌, nat_eq, cond, refl, ap, sym, subst, inl, inr, Option, Some, None}
 use Rattle.std.specs.Prelude.{MatchOption}
 use Rattle.std.specs.Ordering.{is_eq, nat_cmp, ordering_then}
-use Rattle.std.specs.declared.cmp.Ordering.{Ordering}
-use Rattle.std.specs.declared.cmp.Ordering.TheVariants.{Less, Equal, Greater}
 use Rattle.std.proofs.lemmas.Bool.{cases_Bool, and_parts, and_right, eqb-true, eq-eqb, ne_eqb, eqb-false}
-use Rattle.std.proofs.lemmas.Bool.Decides.{nat_tests}
+use Rattle.bdb_base.specs.OrderLemmas.{is_eq_nat_cmp, is_eq-then}
 use Rattle.bdb_keep.specs.Tables.{Tables}
 use Rattle.bdb_key.specs.Grammar.{IsNum}
 use Rattle.bdb_tables.specs.Codec.{Codec}
@@ -19,20 +17,12 @@ use Rattle.bdb_names.specs.Turned.{unlinked, linked, link_set, with_link, unled,
 
 -- ---- equal keys
 
-pub number_eq : (a b : ℕ) → is_eq (nat_cmp a b) ≡ nat_eq a b
-number_eq a b = grind (arith, nat_tests)
-
-then_eq : (a b : Ordering) → is_eq (ordering_then a b) ≡ (is_eq a && is_eq b)
-then_eq Less b = refl
-then_eq Equal b = refl
-then_eq Greater b = refl
-
 pub pair_eq : (a b : ℕ × ℕ) → is_eq (ordering_then (nat_cmp a.0 b.0) (nat_cmp a.1 b.1)) ≡ (nat_eq a.0 b.0 && nat_eq a.1 b.1)
-pair_eq a b = then_eq (nat_cmp a.0 b.0) (nat_cmp a.1 b.1) ∙ ap (λ x. x && is_eq (nat_cmp a.1 b.1)) (number_eq a.0 b.0) ∙ ap (λ x. nat_eq a.0 b.0 && x) (number_eq a.1 b.1)
+pair_eq a b = is_eq-then (nat_cmp a.0 b.0) (nat_cmp a.1 b.1) ∙ ap (λ x. x && is_eq (nat_cmp a.1 b.1)) (is_eq_nat_cmp a.0 b.0) ∙ ap (λ x. nat_eq a.0 b.0 && x) (is_eq_nat_cmp a.1 b.1)
 
 pub triple_eq : (a b : ℕ × ℕ × ℕ) → is_eq (ordering_then (nat_cmp a.0 b.0) (ordering_then (nat_cmp a.1 b.1) (nat_cmp a.2 b.2))) ≡ (nat_eq a.0 b.0 && (nat_eq a.1 b.1 && nat_eq a.2 b.2))
 triple_eq a b =
-    then_eq (nat_cmp a.0 b.0) (ordering_then (nat_cmp a.1 b.1) (nat_cmp a.2 b.2)) ∙ ap (λ x. x && is_eq (ordering_then (nat_cmp a.1 b.1) (nat_cmp a.2 b.2))) (number_eq a.0 b.0)
+    is_eq-then (nat_cmp a.0 b.0) (ordering_then (nat_cmp a.1 b.1) (nat_cmp a.2 b.2)) ∙ ap (λ x. x && is_eq (ordering_then (nat_cmp a.1 b.1) (nat_cmp a.2 b.2))) (is_eq_nat_cmp a.0 b.0)
     ∙ ap (λ x. nat_eq a.0 b.0 && x) (pair_eq (a.1, a.2) (b.1, b.2))
 
 -- ---- a turned row that goes, and one that comes
@@ -111,7 +101,7 @@ pub link_set_is : (t : Tables) (d l : ℕ → Option ℕ) (e : ℕ × ℕ → Op
 link_set_is t d l e old new k fits size was h = record {
   depth = link_elsewhere depth_codec (λ x. cc) (λ x. cc) t d old new k h.depth;
   link = linked_elsewhere link_codec (λ x. cc) _ (with_link l k new) old new k
-      (gives_same link_codec _ (with_row_at link_codec l (k, new)) (with_link l k new) (λ q _. ap (λ b. cond b new (l q)) (number_eq q k))
+      (gives_same link_codec _ (with_row_at link_codec l (k, new)) (with_link l k new) (λ q _. ap (λ b. cond b new (l q)) (is_eq_nat_cmp q k))
       (change_gives link_codec numbers_in_order t l (k, new) (record { key = fits; row = size }) h.link));
   linked =
       let f : ℕ × ℕ → Option (Unit {0}) = λ q. row_where (leads_to (l q.1) q.0) in
@@ -154,7 +144,7 @@ pub edge_elsewhere : {Key Row : Type 0} (c : Codec Key Row) → (c.number ≡ 9 
     → Gives c (edge_set t old new k) f
 edge_elsewhere c one two t f old new k h = led_elsewhere c two _ f old new k (change_elsewhere c edge_codec one t f (k, new) h)
 
-same_edge_is : (a b : ℕ × ℕ) → same_edge a b ≡ true → a ≡ b
+pub same_edge_is : (a b : ℕ × ℕ) → same_edge a b ≡ true → a ≡ b
 same_edge_is a b h =
     let p = and_parts (nat_eq a.0 b.0) (nat_eq a.1 b.1) h in
     let pair : ℕ → ℕ → ℕ × ℕ = λ m n. (m, n) in

@@ -1,6 +1,7 @@
 -- Three readings of the same tokens: with a number outside i64 refused, with 0 for it, and with any number.
 use Rattle.std.proofs.Common.{◌≡◌, Bool, true, false, ◌&&◌, cond, Option, Some, None, Result, Err, refl, sym, ap, ◌∙◌, subst}
 use Rattle.std.specs.Option.{option_map}
+use Rattle.std.proofs.lemmas.Bool.{and_from, and_left}
 use Rattle.bdb_parse.specs.declared.error.ParseError.{ParseError}
 use Rattle.bdb_parse.specs.declared.error.ParseError.TheVariants.{Syntax, Number}
 use Rattle.bdb_parse.specs.Gives.{Fails}
@@ -37,12 +38,6 @@ agrees_last f g h e neither = neither
 agrees_last f g h e (fitting x y t) = fitting (h x) (h y) (e x ∙ t)
 agrees_last f g h e (wide x y t) = wide (h x) (h y) (e x ∙ t)
 
-and_both : (b c : Bool) → b ≡ true → c ≡ true → (b && c) ≡ true
-and_both b c p q = ap (λ x. x && c) p ∙ q
-
-and_first_fails : (b c : Bool) → b ≡ false → (b && c) ≡ false
-and_first_fails b c p = ap (λ x. x && c) p
-
 and_second_fails : (b c : Bool) → b ≡ true → c ≡ false → (b && c) ≡ false
 and_second_fails b c p q = ap (λ x. x && c) p ∙ q
 
@@ -51,14 +46,14 @@ pub agrees_two : {X Y Z : Type 0} (f : X → Bool) (g : Y → Bool) (k : Z → B
 agrees_two f g k h e neither i = neither
 agrees_two f g k h e (fitting x y t) neither = neither
 agrees_two f g k h e (fitting x y t) (fitting z w u) =
-    fitting (h x z) (h y w) (e x z ∙ and_both _ _ t u)
+    fitting (h x z) (h y w) (e x z ∙ and_from _ _ t u)
 agrees_two f g k h e (fitting x y t) (wide z w u) =
     wide (h x z) (h y w) (e x z ∙ and_second_fails _ _ t u)
 agrees_two f g k h e (wide x y t) neither = neither
 agrees_two f g k h e (wide x y t) (fitting z w u) =
-    wide (h x z) (h y w) (e x z ∙ and_first_fails _ _ t)
+    wide (h x z) (h y w) (e x z ∙ and_left _ _ t)
 agrees_two f g k h e (wide x y t) (wide z w u) =
-    wide (h x z) (h y w) (e x z ∙ and_first_fails _ _ t)
+    wide (h x z) (h y w) (e x z ∙ and_left _ _ t)
 
 pub strict_reads : {X : Type 0} (f : X → Bool) (s l a : Option X) (x : X) → Agrees f s l a → s ≡ Some x → (a ≡ Some x) × (f x ≡ true)
 strict_reads f s l a x neither e = cc

@@ -1,7 +1,8 @@
 -- A command that was read has the lists that the grammar wants filled.
-use Rattle.std.proofs.Common.{◌≡◌, ℕ, ℤ, Bool, true, false, ◌&&◌, cond, List, ◌∷◌, Option, Some, None, refl, sym, ap, ◌∙◌, subst}
+use Rattle.std.proofs.Common.{◌≡◌, ℕ, ℤ, Bool, true, false, cond, List, ◌∷◌, Option, Some, None, refl, sym, subst}
 use Rattle.std.specs.Prelude.{codes}
 use Rattle.std.specs.Option.{option_map}
+use Rattle.std.proofs.lemmas.Bool.{and_from}
 use Rattle.bdb_base.specs.declared.kinds.Value.{Value}
 use Rattle.bdb_lex.specs.declared.token.Token.{Token}
 use Rattle.bdb_syntax.specs.declared.command.RawQuery.{RawQuery}
@@ -104,9 +105,6 @@ update_filled number ts =
     each_behind IsFilled (list_of (set_of number) stops.Comma (cut stops.Where rest).0) _ (λ sets g.
     each_behind IsFilled (conds_of (test_of number) (cut stops.Where rest).1) _ (λ conds h. list_filled (set_of number) stops.Comma (cut stops.Where rest).0 sets g))))
 
-both : (b c : Bool) → b ≡ true → c ≡ true → (b && c) ≡ true
-both b c p q = ap (λ x. x && c) p ∙ q
-
 abbrev IsFilledQuery : RawQuery → Type 0
 IsFilledQuery q = query_filled q ≡ true
 
@@ -117,7 +115,7 @@ query_is_filled number ts =
     each_behind IsFilledQuery (list_of col_of stops.Comma (cut stops.From ts).0) _ (λ take f.
     each_behind IsFilledQuery (list_of item_of stops.Comma (cut stops.Where rest).0) _ (λ items g.
     each_behind IsFilledQuery (conds_of (cond_of number) (cut stops.Where rest).1) _ (λ conds h.
-    both _ _ (list_filled col_of stops.Comma (cut stops.From ts).0 take f) (list_filled item_of stops.Comma (cut stops.Where rest).0 items g)))))
+    and_from _ _ (list_filled col_of stops.Comma (cut stops.From ts).0 take f) (list_filled item_of stops.Comma (cut stops.Where rest).0 items g)))))
 
 explain_filled : (number : List ℕ → Option ℤ) (ts : List Token) → Each IsFilled (explain_of number ts)
 unfolding explain_of

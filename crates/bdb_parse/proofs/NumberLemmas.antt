@@ -21,11 +21,11 @@ pub wide_is_no_i64 : (n : ℤ) → (FitsSigned w64 n → ⊥) → is_i64 n ≡ f
 wide_is_no_i64 (pos n) h = false_from_ne_true _ (λ e. h (let lt : n < 2 ^ 63 = ltb-true n (2 ^ 63) e in omega (arith, ints)))
 wide_is_no_i64 (negsuc n) h = false_from_ne_true _ (λ e. h (let lt : n < 2 ^ 63 = ltb-true n (2 ^ 63) e in omega (arith, ints)))
 
-tells : IsDigitsTest (λ ds. list_all is_ascii_digit ds ≡ true)
+pub tells : IsDigitsTest (λ ds. list_all is_ascii_digit ds ≡ true)
 tells = search rules
 
-own : IsNumeralModel (λ ds. list_all is_ascii_digit ds ≡ true) (digits_value 10)
-own = numerals_by_value _ tells
+pub digits_own : IsNumeralModel (λ ds. list_all is_ascii_digit ds ≡ true) (digits_value 10)
+digits_own = numerals_by_value _ tells
 
 not_zero : (n : ℕ) → not (n == 0) ≡ true → 0 < n
 not_zero zero h = cc
@@ -33,9 +33,9 @@ not_zero (suc n) h = omega arith
 
 are_digits_numeral : (ds : List ℕ) → are_digits ds ≡ true → IsNumeral 10 ds
 are_digits_numeral ds h =
-    let p = and_parts (not (length ds == 0)) (list_all is_ascii_digit ds) h in (not_zero (length ds) p.0, own.to ds p.1)
+    let p = and_parts (not (length ds == 0)) (list_all is_ascii_digit ds) h in (not_zero (length ds) p.0, digits_own.to ds p.1)
 
-digit_is_no_plus : (c : ℕ) → is_ascii_digit c ≡ true → (c == 43) ≡ false
+pub digit_is_no_plus : (c : ℕ) → is_ascii_digit c ≡ true → (c == 43) ≡ false
 digit_is_no_plus c h = grind (arith, nat_tests)
 
 sign_matters : (c : ℕ) (cs : List ℕ) (b : Bool) → (c == 45) ≡ b → are_digits (cond b cs (c ∷ cs)) ≡ true → IsNumeral 10 (cond b cs (drop (cond (c == 43) 1 0) (c ∷ cs)))

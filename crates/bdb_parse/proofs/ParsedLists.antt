@@ -1,7 +1,7 @@
 -- Lists of tokens with separators, cut into their parts again.
 use Rattle.std.proofs.Common.{◌≡◌, Bool, true, false, not, List, [], ◌∷◌, ◌++◌, map, Option, Some, None, refl, ap, ◌∙◌}
 use Rattle.std.specs.List.{list_all, flat_map, AllByRecursion}
-use Rattle.std.proofs.lemmas.Bool.{false≢true, and_parts, and_from, cond-true, cond-false}
+use Rattle.std.proofs.lemmas.Bool.{false≢true, and_parts, and_from, cond-true, cond-false, not-true}
 use Rattle.bdb_lex.specs.declared.token.Token.{Token}
 use Rattle.bdb_parse.specs.declared.stop.Stop.{Stop}
 use Rattle.bdb_parse.specs.Stops.{is_stop, cut, parts, with_first}
@@ -22,33 +22,29 @@ clear_append stop [] b h k = k
 clear_append stop (t ∷ a) b h k =
     let p = and_parts (not (is_stop stop t)) (is_clear stop a) h in and_from (not (is_stop stop t)) (is_clear stop (a ++ b)) p.0 (clear_append stop a b p.1 k)
 
-not_stop : (b : Bool) → not b ≡ true → b ≡ false
-not_stop false h = refl
-not_stop true h = absurd (false≢true h)
-
 pub cut_clear : (stop : Stop) (a : List Token) → is_clear stop a ≡ true → cut stop a ≡ (a, None)
 cut_clear stop [] h = refl
 cut_clear stop (t ∷ a) h =
     let p = and_parts (not (is_stop stop t)) (is_clear stop a) h in
-    cond-false (is_stop stop t) _ _ (not_stop (is_stop stop t) p.0) ∙ ap (λ (c : List Token × Option (List Token)). (t ∷ c.0, c.1)) (cut_clear stop a p.1)
+    cond-false (is_stop stop t) _ _ (not-true (is_stop stop t) p.0) ∙ ap (λ (c : List Token × Option (List Token)). (t ∷ c.0, c.1)) (cut_clear stop a p.1)
 
 pub cut_stop : (stop : Stop) (a : List Token) (t : Token) (rest : List Token) → is_clear stop a ≡ true → is_stop stop t ≡ true → cut stop (a ++ t ∷ rest) ≡ (a, Some rest)
 cut_stop stop [] t rest h s = cond-true (is_stop stop t) _ _ s
 cut_stop stop (x ∷ a) t rest h s =
     let p = and_parts (not (is_stop stop x)) (is_clear stop a) h in
-    cond-false (is_stop stop x) _ _ (not_stop (is_stop stop x) p.0) ∙ ap (λ (c : List Token × Option (List Token)). (x ∷ c.0, c.1)) (cut_stop stop a t rest p.1 s)
+    cond-false (is_stop stop x) _ _ (not-true (is_stop stop x) p.0) ∙ ap (λ (c : List Token × Option (List Token)). (x ∷ c.0, c.1)) (cut_stop stop a t rest p.1 s)
 
 parts_clear : (stop : Stop) (a : List Token) → is_clear stop a ≡ true → parts stop a ≡ a ∷ []
 parts_clear stop [] h = refl
 parts_clear stop (t ∷ a) h =
     let p = and_parts (not (is_stop stop t)) (is_clear stop a) h in
-    cond-false (is_stop stop t) _ _ (not_stop (is_stop stop t) p.0) ∙ ap (with_first t) (parts_clear stop a p.1)
+    cond-false (is_stop stop t) _ _ (not-true (is_stop stop t) p.0) ∙ ap (with_first t) (parts_clear stop a p.1)
 
 parts_stop : (stop : Stop) (a : List Token) (t : Token) (rest : List Token) → is_clear stop a ≡ true → is_stop stop t ≡ true → parts stop (a ++ t ∷ rest) ≡ a ∷ parts stop rest
 parts_stop stop [] t rest h s = cond-true (is_stop stop t) _ _ s
 parts_stop stop (x ∷ a) t rest h s =
     let p = and_parts (not (is_stop stop x)) (is_clear stop a) h in
-    cond-false (is_stop stop x) _ _ (not_stop (is_stop stop x) p.0) ∙ ap (with_first x) (parts_stop stop a t rest p.1 s)
+    cond-false (is_stop stop x) _ _ (not-true (is_stop stop x) p.0) ∙ ap (with_first x) (parts_stop stop a t rest p.1 s)
 
 parts_parted : {X : Type 0} (stop : Stop) (t : Token) → is_stop stop t ≡ true → (g : X → List Token) (P : X → Type 0) → ((x : X) → P x → IsClear (g x))
     → (x : X) (xs : List X) → P x → AllByRecursion P xs → parts stop (parted t (map g (x ∷ xs))) ≡ map g (x ∷ xs)

@@ -35,14 +35,11 @@ use Rattle.bdb_parse.specs.Numbers.{number_of, is_i64}
 use Rattle.bdb_parse.specs.Fits.{value_fits, side_fits, cond_fits, set_fits}
 use Rattle.bdb_parse.specs.Reading.{keyword_at, literal_of, cmp_at, col_at, col_of, bare, bare_of, side_of, test_of, cond_of, set_of, kind_of, column_of, beliefs_at, whos_at, sign_at, target_at, alias_of, item_of}
 use Rattle.bdb_parse.proofs.PrintedTokens.{value_tokens, named_tokens, col_tokens, side_tokens, cmp_token, cond_tokens, set_tokens, column_tokens, belief_tokens, who_tokens, not_tokens, target_tokens, item_tokens}
-use Rattle.bdb_parse.proofs.SpelledTokens.{digits_own}
 use Rattle.bdb_parse.proofs.ParsedParts.{IsSideOf, no_keyword, name_takes, keyword_misses}
+use Rattle.bdb_parse.proofs.NumberLemmas.{digit_is_no_plus, digits_own}
 
 digit_no_dash : (c : ℕ) → is_ascii_digit c ≡ true → (c == 45) ≡ false
 digit_no_dash c h = grind (arith, nat_tests)
-
-digit_no_plus : (c : ℕ) → is_ascii_digit c ≡ true → (c == 43) ≡ false
-digit_no_plus c h = grind (arith, nat_tests)
 
 has_some : (n : ℕ) → (suc n == 0) ≡ false
 has_some n = grind (arith, nat_tests)
@@ -53,7 +50,7 @@ digits_number [] h n = absurd (omega arith)
 digits_number (c ∷ cs) h n =
     let p = and_parts (is_ascii_digit c) (list_all is_ascii_digit cs) h in
     let dash : (c == 45) ≡ false = digit_no_dash c p.0 in
-    let plus : (c == 43) ≡ false = digit_no_plus c p.0 in
+    let plus : (c == 43) ≡ false = digit_is_no_plus c p.0 in
     let some : (suc (length cs) == 0) ≡ false = has_some (length cs) in
     rw (dash, plus, h, some) refl
 

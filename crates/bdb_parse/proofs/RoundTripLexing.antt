@@ -9,14 +9,7 @@ use Rattle.bdb_lex.specs.declared.token.Token.TheVariants.{Word, Text, Num}
 use Rattle.bdb_lex.specs.Bytes.{is_word_byte}
 use Rattle.bdb_lex.specs.Tokens.{Reading, started, extended, continued, next_reading, ended_tokens, joined, tokens_from, tokens_of, is_allowed}
 use Rattle.bdb_lex.specs.Tokens.Reading.{between, whole}
-
-pub joined_none : (x : Option (List Token)) → joined (Some []) x ≡ x
-joined_none None = refl
-joined_none (Some ts) = refl
-
-pub joined_done : (x : Option (List Token)) → joined x (Some []) ≡ x
-joined_done None = refl
-joined_done (Some ts) = ap Some (append-nil ts)
+use Rattle.bdb_lex.proofs.TokenLemmas.{joined_nothing, joined_done}
 
 pub joined_assoc : (a b x : Option (List Token)) → joined a (joined b x) ≡ joined (joined a b) x
 joined_assoc None b x = refl
@@ -34,7 +27,7 @@ reading_after r [] = r
 reading_after r (b ∷ bytes) = reading_after (next_reading (continued r b) b) bytes
 
 pub run : (r : Reading) (a rest : List ℕ) → tokens_from r (a ++ rest) ≡ joined (tokens_ended r a) (tokens_from (reading_after r a) rest)
-run r [] rest = sym (joined_none _)
+run r [] rest = sym (joined_nothing _)
 run r (b ∷ a) rest =
     ap (joined (ended_tokens (continued r b) r)) (run (next_reading (continued r b) b) a rest)
     ∙ joined_assoc (ended_tokens (continued r b) r) (tokens_ended (next_reading (continued r b) b) a) _
@@ -66,7 +59,7 @@ StopsAt t (b ∷ bytes) = extended t b ≡ None
 
 pub stops : (t : Token) (rest : List ℕ) → StopsAt t rest → is_allowed t ≡ true → tokens_from (whole t) rest ≡ joined (Some (t ∷ [])) (tokens_of rest)
 stops t [] h ok = cond-true (is_allowed t) _ _ ok ∙ sym (joined_done _)
-stops t (b ∷ bytes) h ok = rw h (ap (λ x. joined x (tokens_from (started b) bytes)) (cond-true (is_allowed t) _ _ ok) ∙ ap (joined (Some (t ∷ []))) (sym (joined_none _)))
+stops t (b ∷ bytes) h ok = rw h (ap (λ x. joined x (tokens_from (started b) bytes)) (cond-true (is_allowed t) _ _ ok) ∙ ap (joined (Some (t ∷ []))) (sym (joined_nothing _)))
 
 pub edge_no_word : (b : ℕ) → is_edge_byte b ≡ true → is_word_byte b ≡ false
 edge_no_word b h = grind (arith, nat_tests)
@@ -142,7 +135,7 @@ pub reads_word : (a : List ℕ) (ts : List Token) (w : List ℕ) → tokens_ende
 reads_word a ts w e f ok = record { reads = λ rest h. whole_after a ts (Word w) rest e f (word_stops w rest h) ok }
 
 pub reads_nothing : Reads [] []
-reads_nothing = record { reads = λ rest e. sym (joined_none _) }
+reads_nothing = record { reads = λ rest e. sym (joined_nothing _) }
 
 -- fixed bytes that end with a token that an edge ends
 pub reads_mark : (a : List ℕ) (ts : List Token) (t : Token) → tokens_ended between a ≡ Some ts → reading_after between a ≡ whole t → ((rest : List ℕ) → is_edge rest ≡ true → StopsAt t rest) → is_allowed t ≡ true → Reads a (ts ++ t ∷ [])

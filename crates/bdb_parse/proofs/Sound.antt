@@ -4,6 +4,7 @@ use Rattle.std.specs.Prelude.{codes}
 use Rattle.std.proofs.lemmas.Bool.{cases_Bool}
 use Rattle.bdb_base.specs.declared.kinds.Cmp.{Cmp}
 use Rattle.bdb_base.specs.declared.kinds.Cmp.TheVariants as signs
+use Rattle.bdb_base.proofs.OptionLemmas.{same_some}
 use Rattle.bdb_lex.specs.declared.token.Token.{Token}
 use Rattle.bdb_lex.specs.declared.token.Token.TheVariants.{Word, Text, Comma, Dot, ParenL, ParenR, Eq, Ne, Lt, Le, Gt, Ge}
 use Rattle.bdb_syntax.specs.Keywords.{is_keyword, is_reserved}
@@ -118,9 +119,6 @@ pub sign_then : (Q : List Token → Type 0) (ts : List Token) → Q (sign_at ts)
 unfolding sign_at
 sign_then Q ts q = sign_step Q ts (keyword_at (codes "not") ts) refl q
 
-pub some_same : {X : Type 0} (x y : X) → Some x ≡ Some y → x ≡ y
-some_same x y e = cc
-
 pub target_then : (Q : List Token → Type 0) (ts : List Token) (x : Target × List Token) → target_at ts ≡ Some x → Q x.1 → IsTarget x.0.users x.0.sign x.0.rel Q ts
 unfolding target_at
 target_then Q ts x e =
@@ -128,7 +126,7 @@ target_then Q ts x e =
     let made : List ℕ × List Token → Target × List Token = λ rel. (record { users = (beliefs_at ts).0; sign = sign.0; rel = rel.0 }, rel.1) in
     let h = some_of_both (name_at sign.1) (λ rel. Some (made rel)) x e in
     let F : Target × List Token → Type 0 = λ y. Q y.1 → IsTarget y.0.users y.0.sign y.0.rel Q ts in
-    subst F (some_same (made h.0) x h.2) (λ q. beliefs_then (IsSign sign.0 ▸ IsName h.0.0 ▸ Q) ts (sign_then (IsName h.0.0 ▸ Q) (beliefs_at ts).1 (name_then Q sign.1 h.0 h.1 q)))
+    subst F (same_some (made h.0) x h.2) (λ q. beliefs_then (IsSign sign.0 ▸ IsName h.0.0 ▸ Q) ts (sign_then (IsName h.0.0 ▸ Q) (beliefs_at ts).1 (name_then Q sign.1 h.0 h.1 q)))
 
 pub cut_none : (stop : Stop) (ts : List Token) → (cut stop ts).1 ≡ None → ts ≡ (cut stop ts).0
 cut_none stop [] e = refl
@@ -144,7 +142,7 @@ cut_some stop [] rest e = cc
 cut_some stop (t ∷ ts) rest e =
     elim (cases_Bool (is_stop stop t)) [
       | inl b ↦ let f = cut_head_stop stop t ts b in
-          let h : ts ≡ rest = some_same _ _ (sym (ap (λ (c : List Token × Option (List Token)). c.1) f) ∙ e) in
+          let h : ts ≡ rest = same_some _ _ (sym (ap (λ (c : List Token × Option (List Token)). c.1) f) ∙ e) in
           (t, ap (λ (r : List Token). t ∷ r) h ∙ ap (λ (c : List Token × Option (List Token)). c.0 ++ t ∷ rest) (sym f), b)
       | inr b ↦ let f = cut_head_other stop t ts b in
           let h = cut_some stop ts rest (sym (ap (λ (c : List Token × Option (List Token)). c.1) f) ∙ e) in

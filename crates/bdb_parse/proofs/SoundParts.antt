@@ -8,6 +8,7 @@ use Rattle.bdb_base.specs.declared.kinds.Value.TheVariants as values
 use Rattle.bdb_base.specs.declared.kinds.Kind.{Kind}
 use Rattle.bdb_base.specs.declared.kinds.Kind.TheVariants as kinds
 use Rattle.bdb_base.specs.declared.kinds.ColDef.{ColDef}
+use Rattle.bdb_base.proofs.OptionLemmas.{same_some}
 use Rattle.bdb_lex.specs.declared.token.Token.{Token}
 use Rattle.bdb_lex.specs.declared.token.Token.TheVariants.{Word, Text, Num, Dot, ParenL, ParenR, Eq}
 use Rattle.bdb_syntax.specs.declared.command.RawCol.{RawCol}
@@ -25,7 +26,7 @@ use Rattle.bdb_parse.specs.Stops.{is_stop, cut}
 use Rattle.bdb_parse.specs.Grammar.{◌▸◌, IsNothing, IsToken, IsKeyword, IsName, IsNum, IsKey, IsLiteral, AreSeparated, AreRepeated, IsSign, IsKind, IsColumn, cmp_token, IsBareCol, IsFullCol, IsSide, IsCond, AreConds, IsSet, IsItemBelief, IsAlias, IsItem}
 use Rattle.bdb_parse.specs.Reading.{end_at, word_at, dot_at, equals_at, open_at, cmp_at, keyword_at, name_at, literal_of, sign_at, set_of, bare_of, col_at, col_of, begins_with_word, side_of, test_of, cond_of, conds_of, inside_at, inside_of, num_of, key_of, column_of, kind_of, past, alias_of, item_of, whos_at}
 use Rattle.bdb_parse.proofs.FilledLemmas.{Each, each_behind, each_map, each_cond, each_at}
-use Rattle.bdb_parse.proofs.Sound.{end_is, word_is, dot_is, equals_is, open_is, cmp_is, some_of_both, some_same, name_is, token_then, keyword_then, name_then, name_whole, sign_then, cut_none, cut_some, close_is, and_is, where_is, list_sound}
+use Rattle.bdb_parse.proofs.Sound.{end_is, word_is, dot_is, equals_is, open_is, cmp_is, some_of_both, name_is, token_then, keyword_then, name_then, name_whole, sign_then, cut_none, cut_some, close_is, and_is, where_is, list_sound}
 
 pub literal_sound : (ts : List Token) → Each (λ v. IsLiteral v ts) (literal_of number_of ts)
 literal_sound (Text t ∷ []) = refl
@@ -85,7 +86,7 @@ full_front ts rest x e =
     let c = name_is i.0 j.0 j.1 in
     let whole : ts ≡ Word h.0.0 ∷ Dot ∷ Word j.0.0 ∷ j.0.1 = a.0 ∙ ap (λ (r : List Token). Word h.0.0 ∷ r) (dot_is h.0.1 i.0 i.1 ∙ ap (λ (r : List Token). Dot ∷ r) c.0) in
     let F : RawCol × List Token → Type 0 = λ y. (front : List Token) × (ts ≡ front ++ y.1) × IsFullCol y.0 front in
-    subst F (some_same (made j.0) x j.2)
+    subst F (same_some (made j.0) x j.2)
     (Word h.0.0 ∷ Dot ∷ Word j.0.0 ∷ [], whole, (h.0.0, refl, (Word h.0.0 ∷ [], Dot ∷ Word j.0.0 ∷ [], refl, (refl, a.1), (Dot ∷ [], Word j.0.0 ∷ [], refl, refl, (refl, c.1)))))
 
 full_then : (Q : List Token → Type 0) (ts : List Token) (x : RawCol × List Token) → col_at ts ≡ Some x → Q x.1 → (IsFullCol x.0 ▸ Q) ts
@@ -144,7 +145,7 @@ conds_step IsCol us rest t (c ∷ cs) e w a = (t ∷ [], rest, e, where_is t w, 
 
 pub conds_then : (P : List Token → Type 0) (IsCol : RawCol → List Token → Type 0) (read : List Token → Option RawCond) → ((ts : List Token) → Each (λ c. IsCond IsCol c ts) (read ts)) → (ts : List Token) (conds : List RawCond) (o : Option (List Token)) → (cut stops.Where ts).1 ≡ o → conds_of read o ≡ Some conds → P (cut stops.Where ts).0 → (P ▸ AreConds IsCol conds) ts
 conds_then P IsCol read r ts conds None e f p =
-    let none : [] ≡ conds = some_same _ _ f in
+    let none : [] ≡ conds = same_some _ _ f in
     subst (λ (cs : List RawCond). (P ▸ AreConds IsCol cs) ts) none (ts, [], sym (append_none ts), subst P (sym (cut_none stops.Where ts e)) p, refl)
 conds_then P IsCol read r ts conds (Some rest) e f p =
     let h = cut_some stops.Where ts rest e in
@@ -201,7 +202,7 @@ parens_then P Q ts x e p q =
     let h = some_of_both (open_at ts) _ x e in
     let made : List Token → List Token × List Token = λ after. ((cut stops.Close h.0).0, after) in
     let i = some_of_both (cut stops.Close h.0).1 (λ after. Some (made after)) x h.2 in
-    let same : made i.0 ≡ x = some_same _ _ i.2 in
+    let same : made i.0 ≡ x = same_some _ _ i.2 in
     let k = cut_some stops.Close h.0 i.0 i.1 in
     token_then (IsToken ParenL) (P ▸ IsToken ParenR ▸ Q) ts ParenL h.0 (open_is ts h.0 h.1) refl (
       (cut stops.Close h.0).0,
@@ -217,7 +218,7 @@ unfolding inside_of
 inside_then P ts inside e p =
     let h = some_of_both (inside_at ts) _ inside e in
     let i = some_of_both (end_at h.0.1) (λ _. Some h.0.0) inside h.2 in
-    let w = parens_then P IsNothing ts h.0 h.1 (subst P (sym (some_same _ _ i.2)) p) (end_is h.0.1 i.0 i.1) in
+    let w = parens_then P IsNothing ts h.0 h.1 (subst P (sym (same_some _ _ i.2)) p) (end_is h.0.1 i.0 i.1) in
     let r = w.4.4 in
     let last : w.4.1 ≡ ParenR ∷ [] = r.2 ∙ (ap (λ (f : List Token). f ++ r.1) r.3 ∙ ap (λ (t : List Token). ParenR ∷ t) r.4) in
     (w.0, w.1, w.2, w.3, (w.4.0, w.4.1, w.4.2, w.4.3, last))

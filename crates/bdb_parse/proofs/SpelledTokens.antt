@@ -1,30 +1,31 @@
 -- How words, texts and numbers read back from their spelling.
-use Rattle.std.proofs.Common.{◌≡◌, ℕ, suc, ◌<◌, ◌^◌, true, false, ◌&&◌, nat_eq, nat_le, List, [], ◌∷◌, ◌++◌, length, Some, refl, sym, ap, ◌∙◌, arith, append_assoc, inl, inr, ℤ, pos, negsuc, rules}
+use Rattle.std.proofs.Common.{◌≡◌, ℕ, suc, ◌<◌, ◌^◌, true, false, ◌&&◌, nat_eq, nat_le, List, [], ◌∷◌, ◌++◌, length, Some, refl, sym, ap, ◌∙◌, arith, append_assoc, inl, inr, ℤ, pos, negsuc}
 use Rattle.std.specs.Prelude.{codes}
 use Rattle.std.specs.List.{list_all, flat_map}
 use Rattle.std.specs.Char.{is_ascii_digit}
 use Rattle.std.specs.Fmt.{decimal}
-use Rattle.std.specs.Str.Parse.{digits_value}
 use Rattle.std.proofs.lemmas.Bool.{false≢true, and_parts, and_from, cond-true, cond-false, cases_Bool, eqb-true, ltb-true}
 use Rattle.std.proofs.lemmas.Bool.Decides.{nat_tests}
 use Rattle.std.proofs.lemmas.List.{append-nil}
 use Rattle.std.proofs.lemmas.Str.{is_utf8-from_IsUtf8}
-use Rattle.std.proofs.lemmas.Str.Parse.{IsDigitsTest, IsNumeralModel, numerals_by_value}
 use Rattle.std.proofs.lemmas.Fmt.{digits_decimal, decimal_nonempty}
 use Rattle.bdb_base.specs.declared.kinds.Cmp.{Cmp}
 use Rattle.bdb_base.specs.declared.kinds.Cmp.TheVariants as cmp
 use Rattle.bdb_base.specs.declared.kinds.Value.{Value}
 use Rattle.bdb_base.specs.declared.kinds.Value.TheVariants as value
 use Rattle.bdb_base.specs.Texts.{quoted, quoted_byte, int_text, cmp_text, value_text}
+use Rattle.bdb_base.specs.Bases.{is_clean}
 use Rattle.bdb_lex.specs.declared.token.Token.TheVariants.{Word, Text, Num, Eq, Ne, Lt, Le, Gt, Ge}
-use Rattle.bdb_lex.specs.Bytes.{is_blank, is_letter, is_word_byte}
-use Rattle.bdb_lex.specs.Tokens.{started, extended, tokens_from, is_content}
+use Rattle.bdb_lex.specs.Bytes.{is_word_byte}
+use Rattle.bdb_lex.specs.Tokens.{extended, tokens_from}
 use Rattle.bdb_lex.specs.Tokens.Reading.{whole, in_text, after_dash}
+use Rattle.bdb_lex.proofs.TokenLemmas.{joined_nothing, started_letter, started_digit, digit_no_dash}
 use Rattle.bdb_syntax.specs.Printable.{is_word, is_in_word, begins_word, IsContent, IsPrintableValue}
 use Rattle.bdb_parse.specs.Numbers.{is_i64}
 use Rattle.bdb_parse.specs.Fits.{value_fits}
 use Rattle.bdb_parse.proofs.PrintedTokens.{cmp_token, value_tokens}
-use Rattle.bdb_parse.proofs.RoundTripLexing.{joined_none, is_edge_byte, is_edge, StopsAt, stops, word_stops, num_stops, text_stops, Reads, ends_mark, reads_mark, reads_from_ends}
+use Rattle.bdb_parse.proofs.RoundTripLexing.{is_edge_byte, is_edge, StopsAt, stops, word_stops, num_stops, text_stops, Reads, ends_mark, reads_mark, reads_from_ends}
+use Rattle.bdb_parse.proofs.NumberLemmas.{digits_own}
 
 in_word_goes : (b : ℕ) → is_in_word b ≡ true → is_word_byte b ≡ true
 in_word_goes b h = grind (arith, nat_tests)
@@ -38,13 +39,7 @@ word_run w [] rest h = ap (λ v. tokens_from (whole (Word v)) rest) (sym (append
 word_run w (b ∷ a) rest h =
     let p = and_parts (is_word_byte b) (list_all is_word_byte a) h in
     let e : extended (Word w) b ≡ Some (whole (Word (w ++ b ∷ []))) = cond-true (is_word_byte b) _ _ p.0 in
-    rw e (joined_none _ ∙ (word_run (w ++ b ∷ []) a rest p.1 ∙ ap (λ v. tokens_from (whole (Word v)) rest) (append_assoc w (b ∷ []) a)))
-
-letter_no_blank : (b : ℕ) → is_letter b ≡ true → is_blank b ≡ false
-letter_no_blank b h = grind (arith, nat_tests)
-
-started_letter : (b : ℕ) → is_letter b ≡ true → started b ≡ whole (Word (b ∷ []))
-started_letter b e = let blank : is_blank b ≡ false = letter_no_blank b e in cond-false (is_blank b) _ _ blank ∙ cond-true (is_letter b) _ _ e
+    rw e (joined_nothing _ ∙ (word_run (w ++ b ∷ []) a rest p.1 ∙ ap (λ v. tokens_from (whole (Word v)) rest) (append_assoc w (b ∷ []) a)))
 
 pub word_reads : (w : List ℕ) → is_word w ≡ true → Reads w (Word w ∷ [])
 word_reads [] h = absurd (false≢true h)
@@ -52,25 +47,25 @@ word_reads (b ∷ w) h =
     let p = and_parts (begins_word b) (list_all is_in_word w && nat_le (length (b ∷ w)) 255) h in
     let q = and_parts (list_all is_in_word w) (nat_le (length (b ∷ w)) 255) p.1 in
     record {
-      reads = λ rest e. joined_none _ ∙ (ap (λ r. tokens_from r (w ++ rest)) (started_letter b p.0)
+      reads = λ rest e. joined_nothing _ ∙ (ap (λ r. tokens_from r (w ++ rest)) (started_letter b p.0)
           ∙ (word_run (b ∷ []) w rest (all_go w q.0) ∙ stops (Word (b ∷ w)) rest (word_stops (b ∷ w) rest e) q.1));
     }
 
 text_run : (c t rest : List ℕ) → tokens_from (in_text c) (flat_map quoted_byte t ++ 39 ∷ rest) ≡ tokens_from (whole (Text (c ++ t))) rest
-text_run c [] rest = joined_none _ ∙ ap (λ v. tokens_from (whole (Text v)) rest) (sym (append-nil c))
+text_run c [] rest = joined_nothing _ ∙ ap (λ v. tokens_from (whole (Text v)) rest) (sym (append-nil c))
 text_run c (b ∷ t) rest = elim (cases_Bool (nat_eq b 39)) [
   | inl e ↦ let is_quote : b ≡ 39 = eqb-true b 39 e in
-      rw is_quote (joined_none _ ∙ (joined_none _ ∙ (text_run (c ++ 39 ∷ []) t rest ∙ ap (λ v. tokens_from (whole (Text v)) rest) (append_assoc c (39 ∷ []) t))))
+      rw is_quote (joined_nothing _ ∙ (joined_nothing _ ∙ (text_run (c ++ 39 ∷ []) t rest ∙ ap (λ v. tokens_from (whole (Text v)) rest) (append_assoc c (39 ∷ []) t))))
   | inr e ↦ ap (λ piece. tokens_from (in_text c) (piece ++ flat_map quoted_byte t ++ 39 ∷ rest)) (cond-false (nat_eq b 39) (39 ∷ 39 ∷ []) (b ∷ []) e)
-      ∙ (joined_none _ ∙ (ap (λ r. tokens_from r (flat_map quoted_byte t ++ 39 ∷ rest)) (cond-false (nat_eq b 39) (whole (Text c)) (in_text (c ++ b ∷ [])) e)
+      ∙ (joined_nothing _ ∙ (ap (λ r. tokens_from r (flat_map quoted_byte t ++ 39 ∷ rest)) (cond-false (nat_eq b 39) (whole (Text c)) (in_text (c ++ b ∷ [])) e)
       ∙ (text_run (c ++ b ∷ []) t rest ∙ ap (λ v. tokens_from (whole (Text v)) rest) (append_assoc c (b ∷ []) t))))
 ]
 
 pub text_reads : (t : List ℕ) → IsContent t → Reads (quoted t) (Text t ∷ [])
 text_reads t h =
-    let ok : is_content t ≡ true = and_from _ _ (is_utf8-from_IsUtf8 t h.0) h.1 in
+    let ok : is_clean t ≡ true = and_from _ _ (is_utf8-from_IsUtf8 t h.0) h.1 in
     record {
-      reads = λ rest e. joined_none _ ∙ (ap (tokens_from (in_text [])) (append_assoc (flat_map quoted_byte t) (39 ∷ []) rest)
+      reads = λ rest e. joined_nothing _ ∙ (ap (tokens_from (in_text [])) (append_assoc (flat_map quoted_byte t) (39 ∷ []) rest)
           ∙ (text_run [] t rest ∙ stops (Text t) rest (text_stops t rest e) ok));
     }
 
@@ -79,26 +74,14 @@ num_run w [] rest h = ap (λ v. tokens_from (whole (Num v)) rest) (sym (append-n
 num_run w (b ∷ a) rest h =
     let p = and_parts (is_ascii_digit b) (list_all is_ascii_digit a) h in
     let e : extended (Num w) b ≡ Some (whole (Num (w ++ b ∷ []))) = cond-true (is_ascii_digit b) _ _ p.0 in
-    rw e (joined_none _ ∙ (num_run (w ++ b ∷ []) a rest p.1 ∙ ap (λ v. tokens_from (whole (Num v)) rest) (append_assoc w (b ∷ []) a)))
-
-digit_no_blank : (b : ℕ) → is_ascii_digit b ≡ true → is_blank b ≡ false
-digit_no_blank b h = grind (arith, nat_tests)
-
-digit_no_letter : (b : ℕ) → is_ascii_digit b ≡ true → is_letter b ≡ false
-digit_no_letter b h = grind (arith, nat_tests)
-
-digit_no_dash : (b : ℕ) → is_ascii_digit b ≡ true → nat_eq b 45 ≡ false
-digit_no_dash b h = grind (arith, nat_tests)
-
-started_digit : (b : ℕ) → is_ascii_digit b ≡ true → started b ≡ whole (Num (b ∷ []))
-started_digit b e = cond-false (is_blank b) _ _ (digit_no_blank b e) ∙ (cond-false (is_letter b) _ _ (digit_no_letter b e) ∙ cond-true (is_ascii_digit b) _ _ e)
+    rw e (joined_nothing _ ∙ (num_run (w ++ b ∷ []) a rest p.1 ∙ ap (λ v. tokens_from (whole (Num v)) rest) (append_assoc w (b ∷ []) a)))
 
 digits_read : (a : List ℕ) → list_all is_ascii_digit a ≡ true → 0 < length a → Reads a (Num a ∷ [])
 digits_read [] h n = absurd (omega arith)
 digits_read (b ∷ a) h n =
     let p = and_parts (is_ascii_digit b) (list_all is_ascii_digit a) h in
     record {
-      reads = λ rest e. joined_none _ ∙ (ap (λ r. tokens_from r (a ++ rest)) (started_digit b p.0)
+      reads = λ rest e. joined_nothing _ ∙ (ap (λ r. tokens_from r (a ++ rest)) (started_digit b p.0)
           ∙ (num_run (b ∷ []) a rest p.1 ∙ stops (Num (b ∷ a)) rest (num_stops (b ∷ a) rest e) refl));
     }
 
@@ -108,17 +91,11 @@ dashed_read (b ∷ a) h n =
     let p = and_parts (is_ascii_digit b) (list_all is_ascii_digit a) h in
     let dash : nat_eq b 45 ≡ false = digit_no_dash b p.0 in
     let digit : is_ascii_digit b ≡ true = p.0 in
-    let second : (rest : List ℕ) → tokens_from after_dash (b ∷ (a ++ rest)) ≡ tokens_from (whole (Num (45 ∷ b ∷ []))) (a ++ rest) = λ rest. rw (dash, digit) (joined_none _) in
+    let second : (rest : List ℕ) → tokens_from after_dash (b ∷ (a ++ rest)) ≡ tokens_from (whole (Num (45 ∷ b ∷ []))) (a ++ rest) = λ rest. rw (dash, digit) (joined_nothing _) in
     record {
-      reads = λ rest e. joined_none _ ∙ (second rest
+      reads = λ rest e. joined_nothing _ ∙ (second rest
           ∙ (num_run (45 ∷ b ∷ []) a rest p.1 ∙ stops (Num (45 ∷ b ∷ a)) rest (num_stops (45 ∷ b ∷ a) rest e) refl));
     }
-
-tells : IsDigitsTest (λ ds. list_all is_ascii_digit ds ≡ true)
-tells = search rules
-
-pub digits_own : IsNumeralModel (λ ds. list_all is_ascii_digit ds ≡ true) (digits_value 10)
-digits_own = numerals_by_value _ tells
 
 pub int_reads : (n : ℤ) → is_i64 n ≡ true → Reads (int_text n) (Num (int_text n) ∷ [])
 int_reads (pos n) h =

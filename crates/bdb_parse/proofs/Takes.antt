@@ -44,10 +44,6 @@ pub name_takes : (name : List ℕ) (Q : List Token → Type 0) (ts : List Token)
 name_takes name Q ts h =
     ap name_at (head_is ts h.0 h.1 (Word name) h.2 h.3.0) ∙ name_takes_word name h.1 h.3.1
 
-pub keyword_misses_word : (keyword w : List ℕ) (rest : List Token) → is_keyword keyword w ≡ false → keyword_at keyword (Word w ∷ rest) ≡ None
-unfolding keyword_at
-keyword_misses_word keyword w rest e = cond-false (is_keyword keyword w) (Some rest) None e
-
 any_head : (x : List ℕ) (xs : List (List ℕ)) (w : List ℕ) → list_any (λ k. is_keyword k w) (x ∷ xs) ≡ false → is_keyword x w ≡ false
 any_head x xs w e = (or_parts (is_keyword x w) (list_any (λ k. is_keyword k w) xs) e).0
 

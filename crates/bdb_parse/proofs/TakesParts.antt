@@ -30,7 +30,8 @@ use Rattle.bdb_parse.specs.Numbers.{number_of}
 use Rattle.bdb_parse.specs.Stops.{cut}
 use Rattle.bdb_parse.specs.Grammar.{◌▸◌, IsNothing, IsToken, IsKeyword, IsName, IsNum, IsKey, IsLiteral, AreRepeated, IsBelief, IsSign, IsKind, IsColumn, cmp_token, IsBareCol, IsFullCol, IsSide, IsCond, AreConds, IsSet, IsWho, IsItemBelief, IsAlias, IsItem, IsTarget}
 use Rattle.bdb_parse.specs.Reading.{◌>>=◌, end_at, word_at, equals_at, open_at, cmp_at, keyword_at, name_at, literal_of, sign_of, sign_at, set_of, bare_of, col_at, col_of, begins_with_word, side_of, test_of, cond_of, conds_of, inside_at, inside_of, num_of, key_of, target_at, column_of, kind_of, past, alias_of, item_of, beliefs_at, whos_at}
-use Rattle.bdb_parse.proofs.Takes.{head_is, keyword_takes, name_takes, name_takes_word, keyword_misses_word, name_is_not_as, name_is_not_belief, name_is_not_not, other_keyword, Free, free_seq, cut_free, cut_at, name_free, keyword_free, text_free, num_free, dot_free, cmp_free, cmp_takes, list_takes, and_stops}
+use Rattle.bdb_parse.proofs.Takes.{head_is, keyword_takes, name_takes, name_takes_word, name_is_not_as, name_is_not_belief, name_is_not_not, other_keyword, Free, free_seq, cut_free, cut_at, name_free, keyword_free, text_free, num_free, dot_free, cmp_free, cmp_takes, list_takes, and_stops}
+use Rattle.bdb_parse.proofs.ParsedParts.{keyword_misses}
 
 pub then_some : {X Y : Type 0} (o : Option X) (x : X) (k : X → Option Y) (y : Y) → o ≡ Some x → k x ≡ Some y → (o >>= k) ≡ Some y
 then_some {X} o x k y e f = ap (λ (p : Option X). p >>= k) e ∙ f
@@ -188,7 +189,7 @@ sign_takes Plus rel After ts h =
     let i = h.4 in
     let start : ts ≡ h.1 = h.2 ∙ ap (λ (r : List Token). r ++ h.1) h.3 in
     let first = head_is h.1 i.0 i.1 (Word rel) i.2 i.3.0 in
-    ap (sign_of ts) (ap (keyword_at (codes "not")) (start ∙ first) ∙ keyword_misses_word (codes "not") rel i.1 (name_is_not_not rel i.3.1))
+    ap (sign_of ts) (ap (keyword_at (codes "not")) (start ∙ first) ∙ keyword_misses (codes "not") rel i.1 (name_is_not_not rel i.3.1))
     ∙ ap (λ (r : List Token). sign_of r None) start
 sign_takes Minus rel After ts h =
     ap (sign_of ts) (keyword_takes (codes "not") (IsName rel ▸ After) ts h)
@@ -255,7 +256,7 @@ alias_takes : (rel alias : List ℕ) (ts : List Token) → IsAlias rel alias ts 
 unfolding alias_of
 alias_takes rel alias ts (inl h) = ap (alias_of rel) h.0 ∙ ap Some (sym h.1)
 alias_takes rel alias ts (inr (inl n)) =
-    let miss = keyword_misses_word (codes "as") alias [] (name_is_not_as alias n.1) in
+    let miss = keyword_misses (codes "as") alias [] (name_is_not_as alias n.1) in
     ap (alias_of rel) n.0
     ∙ then_some (name_at (past (Word alias ∷ []) (keyword_at (codes "as") (Word alias ∷ [])))) (alias, []) _ alias
     (ap (λ (o : Option (List Token)). name_at (past (Word alias ∷ []) o)) miss ∙ name_takes_word alias [] n.1)

@@ -3,6 +3,7 @@ use Rattle.std.proofs.Common.{◌≡◌, ◌<◌, not, ◌&&◌, List, [], ◌�
 use Rattle.std.specs.Prelude.{codes}
 use Rattle.std.proofs.lemmas.Bool.{cond-true, cond-false}
 use Rattle.std.proofs.lemmas.List.{append-nil}
+use Rattle.bdb_base.proofs.OptionLemmas.{same_some}
 use Rattle.bdb_lex.specs.declared.token.Token.{Token}
 use Rattle.bdb_lex.specs.declared.token.Token.TheVariants.{Word, Text, Dot}
 use Rattle.bdb_syntax.specs.declared.command.RawWho.{RawWho}
@@ -33,13 +34,10 @@ whos_end (Word w ∷ Word a ∷ Dot ∷ Word c ∷ ts) e =
     cond-false b _ _ (none_of_cond b (whos.Col (record { alias = Some a; col = c }), ts) e)
 whos_end _ e = refl
 
-some_is : {X : Type 0} (x y : X) → Some x ≡ Some y → x ≡ y
-some_is x y e = cc
-
 -- a loop that has read the users in front goes on with one more
 pub whos_kept : (all : List RawWho × List Token) (front new : List RawWho) (ts : List Token) (o : Option (RawWho × List Token)) (x : RawWho) (rest : List Token) → (all.0 ≡ front ++ (whos_at ts).0) × (all.1 ≡ (whos_at ts).1) → Some (who_at ts) ≡ Some o → o ≡ Some (x, rest) → new ≡ front ++ x ∷ [] → (all.0 ≡ new ++ (whos_at rest).0) × (all.1 ≡ (whos_at rest).1)
 whos_kept all front new ts o x rest i e f n =
-    let m = (whos_more ts x rest (some_is _ _ e ∙ f)).0 in (
+    let m = (whos_more ts x rest (same_some _ _ e ∙ f)).0 in (
       i.0
           ∙ (ap (λ (p : List RawWho × List Token). front ++ p.0) m
           ∙ (sym (append_assoc front (x ∷ []) (whos_at rest).0)
@@ -49,11 +47,11 @@ whos_kept all front new ts o x rest i e f n =
     )
 
 pub whos_shorter : (ts : List Token) (o : Option (RawWho × List Token)) (x : RawWho) (rest : List Token) → Some (who_at ts) ≡ Some o → o ≡ Some (x, rest) → length rest < length ts
-whos_shorter ts o x rest e f = (whos_more ts x rest (some_is _ _ e ∙ f)).1
+whos_shorter ts o x rest e f = (whos_more ts x rest (same_some _ _ e ∙ f)).1
 
 pub whos_done : (all : List RawWho × List Token) (front : List RawWho) (ts : List Token) (o : Option (RawWho × List Token)) → (all.0 ≡ front ++ (whos_at ts).0) × (all.1 ≡ (whos_at ts).1) → Some (who_at ts) ≡ Some o → o ≡ None → all ≡ (front, ts)
 whos_done all front ts o i e f =
-    let m = whos_end ts (some_is _ _ e ∙ f) in
+    let m = whos_end ts (same_some _ _ e ∙ f) in
     let first : all.0 ≡ front = i.0 ∙ (ap (λ (p : List RawWho × List Token). front ++ p.0) m ∙ append-nil front) in
     let second : all.1 ≡ ts = i.1 ∙ ap (λ (p : List RawWho × List Token). p.1) m in
     ap (λ xs. (xs, all.1)) first ∙ ap (λ ys. (front, ys)) second

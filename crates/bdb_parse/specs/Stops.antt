@@ -7,9 +7,9 @@ use Rattle.bdb_parse.specs.declared.stop.Stop.TheVariants as stops
 use Rattle.bdb_syntax.specs.Keywords.{is_keyword}
 
 -- a token is this keyword
-abbrev pub is_word : List ℕ → Token → Bool
-is_word keyword (Word w) = is_keyword keyword w
-is_word keyword _ = false
+abbrev pub is_keyword_token : List ℕ → Token → Bool
+is_keyword_token keyword (Word w) = is_keyword keyword w
+is_keyword_token keyword _ = false
 
 -- a token is a comma
 abbrev pub is_comma : Token → Bool
@@ -25,9 +25,9 @@ is_close _ = false
 abbrev pub is_stop : Stop → Token → Bool
 is_stop stops.Comma token = is_comma token
 is_stop stops.Close token = is_close token
-is_stop stops.And token = is_word (codes "and") token
-is_stop stops.From token = is_word (codes "from") token
-is_stop stops.Where token = is_word (codes "where") token
+is_stop stops.And token = is_keyword_token (codes "and") token
+is_stop stops.From token = is_keyword_token (codes "from") token
+is_stop stops.Where token = is_keyword_token (codes "where") token
 
 -- the tokens before the first stop, and those after it where there is one
 abbrev pub cut : Stop → List Token → List Token × Option (List Token)

@@ -4,7 +4,7 @@ ghost use Rattle.std.specs.Option.{option_map};
 ghost use Rattle.bdb_parse.specs.Gives.{Gives};
 ghost use Rattle.bdb_parse.specs.Reading.{believer, beliefs_at};
 
-use crate::cut::is_word;
+use crate::cut::is_keyword_token;
 use crate::error::ParseError;
 use bdb_base::{List, Txt};
 use bdb_lex::{Token, TokenText};
@@ -16,7 +16,7 @@ fn believer<'a, 'p>(first: &Token<'_>, second: &'a Token<'p>) -> Option<&'a Toke
 {
     match second {
         Token::Text(user) => {
-            if is_word("belief", first) {
+            if is_keyword_token("belief", first) {
                 Some(user)
             } else {
                 None

@@ -1,15 +1,15 @@
 // Lists of tokens cut at a stop.
 ghost use Rattle.std.specs.Prelude.{◌≡◌};
 ghost use Rattle.std.specs.Option.{option_copied};
-ghost use Rattle.bdb_parse.specs.Stops.{is_word, is_stop, cut};
+ghost use Rattle.bdb_parse.specs.Stops.{is_keyword_token, is_stop, cut};
 
 use crate::keywords::is_keyword;
 use crate::stop::Stop;
 use bdb_lex::Token;
 
 /// Whether a token is this keyword.
-pub fn is_word(keyword: &str, token: &Token<'_>) -> bool
-    ensures { result ≡ is_word keyword.now token.now }
+pub fn is_keyword_token(keyword: &str, token: &Token<'_>) -> bool
+    ensures { result ≡ is_keyword_token keyword.now token.now }
 {
     match token {
         Token::Word(word) => is_keyword(keyword, word),
@@ -24,9 +24,9 @@ fn is_stop(stop: Stop, token: &Token<'_>) -> bool
     match stop {
         Stop::Comma => matches!(token, Token::Comma),
         Stop::Close => matches!(token, Token::ParenR),
-        Stop::And => is_word("and", token),
-        Stop::From => is_word("from", token),
-        Stop::Where => is_word("where", token),
+        Stop::And => is_keyword_token("and", token),
+        Stop::From => is_keyword_token("from", token),
+        Stop::Where => is_keyword_token("where", token),
     }
 }
 

@@ -4,7 +4,7 @@ ghost use Rattle.std.specs.Option.{option_copied};
 ghost use Rattle.bdb_parse.specs.Gives.{Gives};
 ghost use Rattle.bdb_parse.specs.Reading.{end_at, word_at, text_at, dot_at, equals_at, open_at, cmp_at, keyword_at, name_at};
 
-use crate::cut::is_word;
+use crate::cut::is_keyword_token;
 use crate::error::ParseError;
 use crate::keywords::is_reserved;
 use bdb_base::{Cmp, Txt};
@@ -105,7 +105,7 @@ pub fn after_keyword<'a, 'p>(keyword: &str, tokens: &'a [Token<'p>]) -> Option<&
     match tokens {
         [] => None,
         [first, rest @ ..] => {
-            if is_word(keyword, first) {
+            if is_keyword_token(keyword, first) {
                 Some(rest)
             } else {
                 None

@@ -1,5 +1,5 @@
 -- The states are the prefixes of the statements' paths, and so they are counted.
-use Rattle.std.proofs.Common.{◌≡◌, ◌∙◌, ℕ, ◌+◌, ◌≤◌, ◌<◌, Bool, true, false, not, ◌&&◌, ◌||◌, nat_eq, nat_lt, cond, List, [], ◌∷◌, ◌++◌, refl, ap, sym, inl, inr, suc, arith, filter, length, map, take, drop, get_or}
+use Rattle.std.proofs.Common.{◌≡◌, ◌∙◌, ℕ, ◌+◌, ◌≤◌, ◌<◌, Bool, true, false, not, ◌&&◌, ◌||◌, nat_eq, nat_lt, List, [], ◌∷◌, ◌++◌, refl, ap, sym, inl, inr, suc, arith, filter, length, map, take, drop, get_or}
 use Prim.Native.Nat.{zero}
 use Rattle.std.specs.List.{list_any}
 use Rattle.std.specs.Ordering.{is_eq}
@@ -18,27 +18,14 @@ use Rattle.bdb_base.specs.SortedSet.{ascending, is_member, put_in}
 use Rattle.bdb_base.specs.States.{is_state, prefixes, stated_prefixes, states_of}
 use Rattle.bdb_base.proofs.ClashLemmas.{turned}
 use Rattle.bdb_base.proofs.CountLemmas.{list_any-map, one_unless, distinct_count-same, put_all_count}
-use Rattle.bdb_base.proofs.ListLemmas.{filter_kept_one, filter_dropped_one, or_swap, or_false}
-use Rattle.bdb_base.proofs.SegmentLemmas.{is_prefix_begins}
+use Rattle.bdb_base.proofs.ListLemmas.{filter_kept_one, filter_dropped_one, or_swap, or_false, list_any_same, filter_same, list_any_under}
+use Rattle.bdb_base.proofs.SegmentLemmas.{is_prefix_begins, length-prefix, is_prefix_shorter}
 use Rattle.bdb_base.proofs.SetLemmas.{list_any-put_in, loop_makes_set, members_make_set, put_adds_member, set_is_ascending, set_keeps_members}
 use Rattle.bdb_base.proofs.WorldLemmas.{list_any_weaker}
 use Rattle.bdb_base.proofs.WorldRowsLemmas.{list_any-flat_map}
 use Rattle.bdb_paths.specs.PathLaws.{ListHasStates, StatesHavePrefixes, StatesAreCounted, PutMakesStates, PutCountsWorlds}
 
 -- ---- tests of lists
-
-pub list_any_same : {X : Type 0} (p q : X → Bool) → ((x : X) → p x ≡ q x) → (xs : List X) → list_any p xs ≡ list_any q xs
-list_any_same p q h [] = refl
-list_any_same p q h (x ∷ xs) = ap (λ b. b || list_any p xs) (h x) ∙ ap (λ b. q x || b) (list_any_same p q h xs)
-
-filter_same : {X : Type 0} (p q : X → Bool) → ((x : X) → p x ≡ q x) → (xs : List X) → filter p xs ≡ filter q xs
-filter_same p q h [] = refl
-filter_same p q h (x ∷ xs) = ap (λ b. cond b (x ∷ filter p xs) (filter p xs)) (h x) ∙ ap (λ ys. cond (q x) (x ∷ ys) ys) (filter_same p q h xs)
-
-pub list_any_under : {X : Type 0} (b : Bool) (f : X → Bool) (xs : List X) → list_any (λ x. b && f x) xs ≡ (b && list_any f xs)
-list_any_under true f xs = refl
-list_any_under false f [] = refl
-list_any_under false f (x ∷ xs) = list_any_under false f xs
 
 pub path_turned : (v w : List ℕ) → same_path v w ≡ same_path w v
 path_turned = turned same_path same_path-Decides
@@ -63,14 +50,6 @@ state_is_listed stmts (i ∷ w) = list_any-flat_map (same_path (i ∷ w)) (λ x.
 
 pub list_has_states : ListHasStates
 list_has_states stmts w = set_keeps_members path_exact (stated_prefixes stmts) w ∙ member_is_same (stated_prefixes stmts) w ∙ state_is_listed stmts w
-
--- a prefix of a prefix is one
-pub is_prefix_shorter : (v u p : List ℕ) → is_prefix (v ++ u) p ≡ true → is_prefix v p ≡ true
-is_prefix_shorter [] u p h = refl
-is_prefix_shorter (i ∷ v) u [] h = absurd (false≢true h)
-is_prefix_shorter (i ∷ v) u (j ∷ p) h =
-    let k = and_parts (nat_eq i j) (is_prefix (v ++ u) p) h in
-    and_from (nat_eq i j) (is_prefix v p) k.0 (is_prefix_shorter v u p k.1)
 
 pub states_have_prefixes : StatesHavePrefixes
 states_have_prefixes stmts [] q h = refl
@@ -151,11 +130,6 @@ prefix_taken : (n : ℕ) (p : List ℕ) → is_prefix (take n p) p ≡ true
 prefix_taken zero p = refl
 prefix_taken (suc n) [] = refl
 prefix_taken (suc n) (i ∷ p) = and_from (nat_eq i i) (is_prefix (take n p) p) (eq-eqb i i refl) (prefix_taken n p)
-
-length-prefix : (w p : List ℕ) → is_prefix w p ≡ true → length w ≤ length p
-length-prefix [] p h = omega arith
-length-prefix (i ∷ w) [] h = absurd (false≢true h)
-length-prefix (i ∷ w) (j ∷ p) h = let k = length-prefix w p (and_parts (nat_eq i j) (is_prefix w p) h).1 in omega arith
 
 up_to : (m n : ℕ) → (nat_eq m n || nat_lt m n) ≡ nat_lt m (n + 1)
 up_to m n = grind (arith, nat_tests)

@@ -18,8 +18,10 @@ use Rattle.bdb_base.specs.SortedSet.{ascending, is_member}
 use Rattle.bdb_base.specs.States.{is_state, deepest_suffix}
 use Rattle.bdb_base.specs.Worlds.{stated}
 use Rattle.bdb_base.proofs.WorldLemmas.{plain_inheritance}
+use Rattle.bdb_base.proofs.ListLemmas.{list_any_same}
+use Rattle.bdb_base.proofs.SegmentLemmas.{suffix_itself, length-suffix}
 use Rattle.bdb_paths.specs.PathLaws.{DeepestSuffixIsLongest, StatesStandForPaths, StatesBelieveForPaths, SuffixesExtend, SuffixesGain, SuffixesLose, with_path, without_path}
-use Rattle.bdb_paths.proofs.StateLemmas.{list_any_same, path_turned}
+use Rattle.bdb_paths.proofs.StateLemmas.{path_turned}
 
 pub deepest_here : (P : List ℕ → Bool) (i : ℕ) (w : List ℕ) → P (i ∷ w) ≡ true → deepest_suffix P (i ∷ w) ≡ i ∷ w
 deepest_here P i w e = cond-true (P (i ∷ w)) (i ∷ w) (deepest_suffix P w) e
@@ -36,20 +38,6 @@ deepest_of_member P (i ∷ w) e = deepest_here P i w e
 pub deepest_same : (P Q : List ℕ → Bool) → ((w : List ℕ) → P w ≡ Q w) → (w : List ℕ) → deepest_suffix P w ≡ deepest_suffix Q w
 deepest_same P Q h [] = refl
 deepest_same P Q h (i ∷ w) = ap (λ b. cond b (i ∷ w) (deepest_suffix P w)) (h (i ∷ w)) ∙ ap (λ v. cond (Q (i ∷ w)) (i ∷ w) v) (deepest_same P Q h w)
-
-same_itself : (w : List ℕ) → same_path w w ≡ true
-same_itself w = (same_path-Decides w w).1 refl
-
-pub suffix_itself : (w : List ℕ) → is_suffix w w ≡ true
-suffix_itself [] = refl
-suffix_itself (i ∷ w) = or_left (same_path (i ∷ w) (i ∷ w)) (is_suffix (i ∷ w) w) (same_itself (i ∷ w))
-
-pub length-suffix : (v w : List ℕ) → is_suffix v w ≡ true → length v ≤ length w
-length-suffix v [] h = let e = ap length ((same_path-Decides v []).0 h) in omega arith
-length-suffix v (j ∷ w) h = elim (or_cases (same_path v (j ∷ w)) (is_suffix v w) h) [
-  | inl a ↦ let e = ap length ((same_path-Decides v (j ∷ w)).0 a) in omega arith
-  | inr b ↦ let k = length-suffix v w b in omega arith
-]
 
 pub length-deepest : (P : List ℕ → Bool) (w : List ℕ) → length (deepest_suffix P w) ≤ length w
 length-deepest P [] = omega arith

@@ -24,15 +24,17 @@ use Rattle.bdb_base.specs.Safety.{equality}
 use Rattle.bdb_base.proofs.CountLemmas.{list_any-map}
 use Rattle.bdb_base.proofs.SetLemmas.{is_eq-Equal, is_eq_itself, set_is_ascending, set_keeps_members}
 use Rattle.bdb_base.proofs.WorldRowsLemmas.{list_any-flat_map}
+use Rattle.bdb_base.proofs.FindLemmas.{list_any-filter}
+use Rattle.bdb_base.proofs.ConditionLemmas.{equal_sides}
+use Rattle.bdb_base.proofs.BoolLemmas.{or_true}
 use Rattle.bdb_queries.specs.Slots.{slot_at, known, known_operand, must_hold, known_row, uid_of}
-use Rattle.bdb_queries.proofs.FoundLemmas.{Found, found_with, list_any-filter, option_map_some}
-use Rattle.bdb_queries.proofs.RangeLemmas.{equal_sides}
+use Rattle.bdb_queries.proofs.FoundLemmas.{Found, found_with, option_map_some}
 use Rattle.bdb_plan.specs.declared.step.Step.{Step}
 use Rattle.bdb_plan.specs.declared.step.Step.TheVariants as step
 use Rattle.bdb_plan.specs.Fitness.{Fields, Placed, is_among, is_set, operand_is_set, who_is_set, is_new, comes_next, is_walked, is_whole, at_width, placed_if, with_user, with_walk, with_tuple, with_column, with_all_bound, placed_after, fits_from, at_first}
 use Rattle.bdb_plan.specs.Holding.{differ, world_if, world_after, world_at_end, IsPlanRow}
 use Rattle.bdb_plan.specs.PlanLaws.{MeaningIsChoices}
-use Rattle.bdb_plan.specs.Running.{Reached, with_world, with_slot, plus_tuples, with_value, reached_if, denied, settled, choices, after, rows_from, start_of, meaning_of}
+use Rattle.bdb_plan.specs.Running.{Reached, with_world, with_slot, plus_tuples, with_value, reached_if, denied, decided, choices, after, rows_from, start_of, meaning_of}
 use Rattle.bdb_plan.specs.Sight.{Sight, is_user_of, has_signed, is_plus_row, rows_deny, is_denied}
 use Rattle.bdb_plan.proofs.StandLemmas.{Stands, Above, above_itself, known_same, operand_same, UsersAreSet, who_same, is_new_tells, new_stands, new_below, new_above, before_of, next_stands, next_below, next_above, is_whole_tells, whole_stands, whole_below, whole_above}
 
@@ -52,10 +54,6 @@ world_tells false n m e = cc
 
 world_is : (t : Bool) (n : ℕ) → t ≡ true → world_if t n ≡ Some n
 world_is t n h = ap (λ x. world_if x n) h
-
-some_of : {X : Type 0} (o : Option X) → is_some o ≡ true → (x : X) × (o ≡ Some x)
-some_of None h = absurd (false≢true h)
-some_of (Some x) h = (x, refl)
 
 any_option : {X Y : Type 0} (q : Y → Bool) (F : X → List Y) (o : Option X) → list_any q (flat_map F (option_list o)) ≡ true → (x : X) × (o ≡ Some x) × (list_any q (F x) ≡ true)
 any_option q F None h = absurd (false≢true h)
@@ -121,10 +119,6 @@ users_stay n w p p' x u e = by x e
 
     one_more : (item i : ℕ) → is_among p.users i ≡ true → (nat_eq i item || is_among p.items i) ≡ true
     one_more item i h = ap (λ b. nat_eq i item || b) (u i h) ∙ or_true (nat_eq i item)
-      where
-        or_true : (b : Bool) → (b || true) ≡ true
-        or_true true = refl
-        or_true false = refl
 
     user : (item i : ℕ) → (nat_eq i item || is_among p.users i) ≡ true → (nat_eq i item || is_among p.items i) ≡ true
     user item i h = elim (or_cases (nat_eq i item) (is_among p.users i) h) [
@@ -178,33 +172,33 @@ goes_choice sight n p users s x item t st new h =
       back = λ zs a. let k = new_below n p.items p.bound s.slots zs item t st fresh a in (k.0, h zs k.1);
     }
 
-goes_settled : (sight : Sight) (n : ℕ) (p p' : Placed) (s s' : Reached) (x : Step) → UsersAreSet p → StandsAt n p s.slots → choices sight s x ≡ None → placed_after n (at_width sight.width) p x ≡ Some p' → settled sight s x ≡ Some s'
+goes_decided : (sight : Sight) (n : ℕ) (p p' : Placed) (s s' : Reached) (x : Step) → UsersAreSet p → StandsAt n p s.slots → choices sight s x ≡ None → placed_after n (at_width sight.width) p x ≡ Some p' → decided sight s x ≡ Some s'
     → Goes sight n p s x p' s'
-goes_settled sight n p p' s s' (step.User item) us st c f e = cc
-goes_settled sight n p p' s s' (step.Pos item rel) us st c f e = cc
-goes_settled sight n p p' s s' (step.Start item) us st c f e =
+goes_decided sight n p p' s s' (step.User item) us st c f e = cc
+goes_decided sight n p p' s s' (step.Pos item rel) us st c f e = cc
+goes_decided sight n p p' s s' (step.Start item) us st c f e =
     let k = placed_tells (nat_lt item n) (with_walk p item) p' f in
     let d : with_world s 0 ≡ s' = cc in
     subst (λ y. Goes sight n p s (step.Start item) y s') k.1 (subst (Goes sight n p s (step.Start item) (with_walk p item)) d (record { stands = st; back = λ zs a. (a, refl) }))
-goes_settled sight n p p' s s' (step.Edge item who) us st c f e =
+goes_decided sight n p p' s s' (step.Edge item who) us st c f e =
     let k = placed_tells (is_walked p.walk item && who_is_set p who) p p' f in
     let there = walked_tells p item (who_is_set p who) k.0 in
     let w = option_map_some (with_world s) (option_and_then (sight.edge s.world) (uid_of s.slots who)) s' e in
     subst (λ y. Goes sight n p s (step.Edge item who) y s') k.1 (subst (Goes sight n p s (step.Edge item who) p) w.2
     (goes_plain sight n p s (step.Edge item who) w.0 st (λ zs a. ap (option_and_then (sight.edge s.world)) (who_same p s.slots zs us a who there) ∙ w.1)))
-goes_settled sight n p p' s s' (step.Differ item left right) us st c f e =
+goes_decided sight n p p' s s' (step.Differ item left right) us st c f e =
     let k = placed_tells (is_walked p.walk item && (who_is_set p left && who_is_set p right)) p p' f in
     let m = and_parts (who_is_set p left) (who_is_set p right) (walked_tells p item (who_is_set p left && who_is_set p right) k.0) in
     let r = reached_tells (differ (uid_of s.slots left) (uid_of s.slots right)) s s' e in
     subst (λ y. Goes sight n p s (step.Differ item left right) y s') k.1 (subst (Goes sight n p s (step.Differ item left right) p) r.1
     (goes_plain sight n p s (step.Differ item left right) s.world st (λ zs a. world_is (differ (uid_of zs left) (uid_of zs right)) s.world
     (ap (λ o. differ o (uid_of zs right)) (who_same p s.slots zs us a left m.0) ∙ ap (differ (uid_of s.slots left)) (who_same p s.slots zs us a right m.1) ∙ r.0))))
-goes_settled sight n p p' s s' (step.Test t) us st c f e =
+goes_decided sight n p p' s s' (step.Test t) us st c f e =
     let k = placed_tells (is_set p t.left && operand_is_set p t.right) p p' f in
     let r = reached_tells (must_hold s.slots t) s s' e in
     subst (λ y. Goes sight n p s (step.Test t) y s') k.1 (subst (Goes sight n p s (step.Test t) p) r.1
     (goes_plain sight n p s (step.Test t) s.world st (λ zs a. world_is (must_hold zs t) s.world (test_same n p s.slots zs us st a t k.0 ∙ r.0))))
-goes_settled sight n p p' s s' (step.Bind item col right) us st c f e =
+goes_decided sight n p p' s s' (step.Bind item col right) us st c f e =
     let k = placed_tells (operand_is_set p right && comes_next n p p.bound item col) (with_column p item col) p' f in
     let m = and_parts (operand_is_set p right) (comes_next n p p.bound item col) k.0 in
     let before = before_of n p s.slots item col st m.1 in
@@ -216,7 +210,7 @@ goes_settled sight n p p' s s' (step.Bind item col right) us st c f e =
           let b = next_below n p.items p.bound s.slots zs item col v.0 st before a in
           (b.0, world_is (must_hold zs (equality ref right)) s.world (equality_holds zs ref right v.0 b.1 (operand_same n p s.slots zs us st b.0 right m.0 ∙ v.1)));
     }))
-goes_settled sight n p p' s s' (step.Neg item rel) us st c f e =
+goes_decided sight n p p' s s' (step.Neg item rel) us st c f e =
     let k = placed_tells (is_walked p.walk item && is_whole n (at_width sight.width) p p.bound item rel) (with_all_bound p item) p' f in
     let w = is_whole_tells n sight.width p s.slots item rel st (walked_tells p item (is_whole n (at_width sight.width) p p.bound item rel) k.0) in
     let u = tuple_of rel w.tuple.vals in
@@ -270,12 +264,12 @@ fits_one n w take (Some p') xs h = (p', refl, h)
 abbrev Runs : Sight → ℕ → List Ref → List Step → (List Value → Bool) → Type 0
 Runs sight n take xs q = (p : Placed) (s : Reached) → UsersAreSet p → fits_from n (at_width sight.width) take (Some p) xs ≡ true → Stands n p.items p.bound s.slots → list_any q (rows_from sight take xs s) ≡ true → Sound sight take p xs s q
 
-run_settled : (sight : Sight) (n : ℕ) (take : List Ref) (x : Step) (xs : List Step) (q : List Value → Bool) → Runs sight n take xs q → (p p' : Placed) (s : Reached) → UsersAreSet p → StandsAt n p s.slots → choices sight s x ≡ None
-    → placed_after n (at_width sight.width) p x ≡ Some p' → fits_from n (at_width sight.width) take (Some p') xs ≡ true → list_any q (flat_map (rows_from sight take xs) (option_list (settled sight s x))) ≡ true
+run_decided : (sight : Sight) (n : ℕ) (take : List Ref) (x : Step) (xs : List Step) (q : List Value → Bool) → Runs sight n take xs q → (p p' : Placed) (s : Reached) → UsersAreSet p → StandsAt n p s.slots → choices sight s x ≡ None
+    → placed_after n (at_width sight.width) p x ≡ Some p' → fits_from n (at_width sight.width) take (Some p') xs ≡ true → list_any q (flat_map (rows_from sight take xs) (option_list (decided sight s x))) ≡ true
     → Sound sight take p (x ∷ xs) s q
-run_settled sight n take x xs q rest p p' s us st c f g h =
-    let m = any_option q (rows_from sight take xs) (settled sight s x) h in
-    let goes = goes_settled sight n p p' s m.0 x us st c f m.1 in
+run_decided sight n take x xs q rest p p' s us st c f g h =
+    let m = any_option q (rows_from sight take xs) (decided sight s x) h in
+    let goes = goes_decided sight n p p' s m.0 x us st c f m.1 in
     go_back sight n take p p' s m.0 x xs q st goes (rest p' m.0 (users_stay n (at_width sight.width) p p' x us f) g goes.stands m.2)
 
 user_world : (sight : Sight) (n item : ℕ) (t : Tuple) → Found t sight.users → (zs : List (Option Tuple)) → slot_at zs item ≡ Some t → world_after sight zs n (step.User item) ≡ Some n
@@ -317,22 +311,22 @@ run_sound sight n take (step.Pos item rel ∷ xs) q p s us f st h =
     (run_sound sight n take xs q g.0 (with_slot s item m.0) (users_stay n (at_width sight.width) p g.0 (step.Pos item rel) us g.1) g.2 goes.stands m.2)
 run_sound sight n take (step.Start item ∷ xs) q p s us f st h =
     let g = fits_one n (at_width sight.width) take (placed_after n (at_width sight.width) p (step.Start item)) xs f in
-    run_settled sight n take (step.Start item) xs q (run_sound sight n take xs q) p g.0 s us st refl g.1 g.2 h
+    run_decided sight n take (step.Start item) xs q (run_sound sight n take xs q) p g.0 s us st refl g.1 g.2 h
 run_sound sight n take (step.Edge item who ∷ xs) q p s us f st h =
     let g = fits_one n (at_width sight.width) take (placed_after n (at_width sight.width) p (step.Edge item who)) xs f in
-    run_settled sight n take (step.Edge item who) xs q (run_sound sight n take xs q) p g.0 s us st refl g.1 g.2 h
+    run_decided sight n take (step.Edge item who) xs q (run_sound sight n take xs q) p g.0 s us st refl g.1 g.2 h
 run_sound sight n take (step.Differ item left right ∷ xs) q p s us f st h =
     let g = fits_one n (at_width sight.width) take (placed_after n (at_width sight.width) p (step.Differ item left right)) xs f in
-    run_settled sight n take (step.Differ item left right) xs q (run_sound sight n take xs q) p g.0 s us st refl g.1 g.2 h
+    run_decided sight n take (step.Differ item left right) xs q (run_sound sight n take xs q) p g.0 s us st refl g.1 g.2 h
 run_sound sight n take (step.Bind item col right ∷ xs) q p s us f st h =
     let g = fits_one n (at_width sight.width) take (placed_after n (at_width sight.width) p (step.Bind item col right)) xs f in
-    run_settled sight n take (step.Bind item col right) xs q (run_sound sight n take xs q) p g.0 s us st refl g.1 g.2 h
+    run_decided sight n take (step.Bind item col right) xs q (run_sound sight n take xs q) p g.0 s us st refl g.1 g.2 h
 run_sound sight n take (step.Neg item rel ∷ xs) q p s us f st h =
     let g = fits_one n (at_width sight.width) take (placed_after n (at_width sight.width) p (step.Neg item rel)) xs f in
-    run_settled sight n take (step.Neg item rel) xs q (run_sound sight n take xs q) p g.0 s us st refl g.1 g.2 h
+    run_decided sight n take (step.Neg item rel) xs q (run_sound sight n take xs q) p g.0 s us st refl g.1 g.2 h
 run_sound sight n take (step.Test c ∷ xs) q p s us f st h =
     let g = fits_one n (at_width sight.width) take (placed_after n (at_width sight.width) p (step.Test c)) xs f in
-    run_settled sight n take (step.Test c) xs q (run_sound sight n take xs q) p g.0 s us st refl g.1 g.2 h
+    run_decided sight n take (step.Test c) xs q (run_sound sight n take xs q) p g.0 s us st refl g.1 g.2 h
 
 -- ---- from choices for all items to a run
 

@@ -1,8 +1,9 @@
 -- What a plan names was set by an earlier step.
 use Rattle.std.proofs.Common.{◌≡◌, ◌∙◌, ℕ, ◌+◌, Bool, true, false, not, ◌&&◌, ◌||◌, nat_eq, nat_lt, List, [], ◌∷◌, ◌++◌, Option, None, Some, inl, inr, refl, ap, sym, subst, append_assoc, arith}
 use Rattle.std.specs.List.{list_any}
-use Rattle.std.proofs.lemmas.Bool.{false≢true, cases_Bool, cond-true, cond-false, or_cases, or_left, and_parts, and_from}
+use Rattle.std.proofs.lemmas.Bool.{false≢true, cases_Bool, cond-true, cond-false, or_cases, or_left, and_parts, and_from, or_parts, or_right}
 use Rattle.std.proofs.lemmas.Bool.Decides.{nat_tests}
+use Rattle.std.proofs.lemmas.List.{append-nil}
 use Rattle.bdb_base.specs.declared.kinds.Operand.{Operand}
 use Rattle.bdb_base.specs.declared.kinds.Operand.TheVariants.{Col, Lit}
 use Rattle.bdb_base.specs.declared.kinds.Ref.{Ref}
@@ -15,7 +16,6 @@ use Rattle.bdb_plan.specs.declared.step.Step.TheVariants as step
 use Rattle.bdb_plan.specs.Fitness.{Placed, is_among, has_bound, was_bound, is_known, is_set, operand_is_set, who_is_set, is_new, comes_next, is_walked, is_whole, with_user, with_walk, with_tuple, with_column, bound_count, with_all_bound, placed_after, fits_from, at_first}
 use Rattle.bdb_plan.specs.Naming.{sets_column, chooses_user, columns_named, users_named, who_items, are_set, are_chosen, PlansNameWhatIsSet}
 use Rattle.bdb_plan.proofs.RunLemmas.{placed_tells, fits_one}
-use Rattle.bdb_plan.proofs.StandLemmas.{or_none}
 
 -- ---- one of the steps
 
@@ -25,10 +25,6 @@ more f (y ∷ ys) x h = elim (or_cases (f y) (list_any f ys) h) [
   | inl k ↦ or_left (f y) (list_any f (ys ++ x ∷ [])) k
   | inr k ↦ or_right (f y) (list_any f (ys ++ x ∷ [])) (more f ys x k)
 ]
-  where
-    or_right : (a b : Bool) → b ≡ true → (a || b) ≡ true
-    or_right true b h = refl
-    or_right false b h = h
 
 last : (f : Step → Bool) (done : List Step) (x : Step) → f x ≡ true → list_any f (done ++ x ∷ []) ≡ true
 last f [] x h = or_left (f x) false h
@@ -99,7 +95,7 @@ told_next n w done p p' (step.User item) t e =
         | inr m ↦ more (chooses_user i) done x (t.users i m)
       ];
       items = λ r a b c.
-          let u = or_none (nat_eq r.item item) (is_among p.users r.item) a in
+          let u = or_parts (nat_eq r.item item) (is_among p.users r.item) a in
           more (sets_column r) done x (t.items r u.1 (sym (ap (λ y. y || is_among p.items r.item) u.0) ∙ b) c);
       bound = λ r h. more (sets_column r) done x (t.bound r h);
     })
@@ -214,21 +210,17 @@ named n w done p p' (step.Test c) t e =
 
 -- ---- a whole plan
 
-append_none : (xs : List Step) → xs ++ [] ≡ xs
-append_none [] = refl
-append_none (x ∷ xs) = ap (λ ys. x ∷ ys) (append_none xs)
-
 named_from : (n : ℕ) (w : ℕ → ℕ → Bool) (take : List Ref) (done before : List Step) (x : Step) (rest : List Step) (p : Placed) → Told done p → fits_from n w take (Some p) (before ++ x ∷ rest) ≡ true → Named (done ++ before) x
 named_from n w take done [] x rest p t f =
     let g = fits_one n w take (placed_after n w p x) rest f in
-    subst (λ xs. Named xs x) (sym (append_none done)) (named n w done p g.0 x t g.1)
+    subst (λ xs. Named xs x) (sym (append-nil done)) (named n w done p g.0 x t g.1)
 named_from n w take done (y ∷ ys) x rest p t f =
     let g = fits_one n w take (placed_after n w p y) (ys ++ x ∷ rest) f in
     subst (λ xs. Named xs x) (append_assoc done (y ∷ []) ys) (named_from n w take (done ++ y ∷ []) ys x rest g.0 (told_next n w done p g.0 y t g.1) g.2)
 
 taken_from : (n : ℕ) (w : ℕ → ℕ → Bool) (take : List Ref) (done xs : List Step) (p : Placed) → Told done p → fits_from n w take (Some p) xs ≡ true → are_set (done ++ xs) take ≡ true
 taken_from n w take done [] p t f =
-    subst (λ xs. are_set xs take ≡ true) (sym (append_none done)) (list_all_weaker (is_set p) (λ r. list_any (sets_column r) done) (column_told done p t) take f)
+    subst (λ xs. are_set xs take ≡ true) (sym (append-nil done)) (list_all_weaker (is_set p) (λ r. list_any (sets_column r) done) (column_told done p t) take f)
 taken_from n w take done (y ∷ ys) p t f =
     let g = fits_one n w take (placed_after n w p y) ys f in
     subst (λ xs. are_set xs take ≡ true) (append_assoc done (y ∷ []) ys) (taken_from n w take (done ++ y ∷ []) ys g.0 (told_next n w done p g.0 y t g.1) g.2)

@@ -1,9 +1,9 @@
 -- What is chosen so far in a run, and choices for all items above it.
-use Rattle.std.proofs.Common.{◌≡◌, ◌∙◌, ℕ, suc, ◌+◌, ◌<◌, Bool, true, false, not, ◌&&◌, ◌||◌, nat_eq, nat_lt, List, [], ◌∷◌, ◌++◌, Option, None, Some, inl, inr, refl, ap, sym, subst, length, slice_set, append_assoc, arith}
+use Rattle.std.proofs.Common.{◌≡◌, ◌∙◌, ℕ, suc, ◌+◌, ◌<◌, true, false, not, ◌&&◌, ◌||◌, nat_eq, nat_lt, List, [], ◌∷◌, ◌++◌, Option, None, Some, inl, inr, refl, ap, sym, subst, length, slice_set, append_assoc, arith}
 use Prim.Native.Nat.{zero}
 use Rattle.std.specs.List.{slice_get}
 use Rattle.std.specs.Option.{option_map, option_and_then}
-use Rattle.std.proofs.lemmas.Bool.{false≢true, cases_Bool, cond-false, or_cases, and_parts, eqb-true, ltb-true}
+use Rattle.std.proofs.lemmas.Bool.{false≢true, cases_Bool, cond-false, or_cases, and_parts, eqb-true, ltb-true, not-true, or_parts, or_right}
 use Rattle.std.proofs.lemmas.Bool.Decides.{Decides-eqb, nat_tests}
 use Rattle.bdb_base.specs.declared.kinds.Operand.{Operand}
 use Rattle.bdb_base.specs.declared.kinds.Operand.TheVariants.{Col, Lit}
@@ -13,23 +13,13 @@ use Rattle.bdb_base.specs.declared.kinds.Who.{Who}
 use Rattle.bdb_base.specs.declared.kinds.Who.TheVariants.{User, Of}
 use Rattle.bdb_base.specs.declared.tuple.Tuple.{Tuple}
 use Rattle.bdb_base.specs.Same.{tuple_of}
+use Rattle.bdb_base.proofs.Numbers.{differs_turned}
 use Rattle.bdb_queries.specs.Slots.{slot_at, known, known_operand, uid_of}
 use Rattle.bdb_queries.proofs.RangeLemmas.{and_then_some}
 use Rattle.bdb_plan.specs.Fitness.{Placed, is_among, is_bound, has_bound, was_bound, is_known, is_set, operand_is_set, who_is_set, is_new, comes_next, is_whole, at_width}
 use Rattle.bdb_plan.specs.Running.{with_value}
 
 -- ---- lists
-
-pub or_none : (a b : Bool) → (a || b) ≡ false → (a ≡ false) × (b ≡ false)
-or_none true b h = absurd (false≢true (sym h))
-or_none false b h = (refl, h)
-
-not_true : (b : Bool) → not b ≡ true → b ≡ false
-not_true true h = absurd (false≢true h)
-not_true false h = refl
-
-eq_turned : (i j : ℕ) → nat_eq i j ≡ false → nat_eq j i ≡ false
-eq_turned i j h = grind (arith, nat_tests)
 
 one_less : (i j : ℕ) → nat_eq (suc j) (suc i) ≡ false → nat_eq j i ≡ false
 one_less i j h = grind (arith, nat_tests)
@@ -167,40 +157,37 @@ pub is_new_tells : (n : ℕ) (p : Placed) (item : ℕ) → is_new n p item ≡ t
 is_new_tells n p item h =
     let k = and_parts (nat_lt item n) (not (is_among p.items item) && not (is_bound p.bound item)) h in
     let m = and_parts (not (is_among p.items item)) (not (is_bound p.bound item)) k.1 in
-    record { within = ltb-true item n k.0; apart = not_true (is_among p.items item) m.0; unbound = not_true (is_bound p.bound item) m.1 }
+    record { within = ltb-true item n k.0; apart = not-true (is_among p.items item) m.0; unbound = not-true (is_bound p.bound item) m.1 }
 
 pub new_stands : (n : ℕ) (items : List ℕ) (o : Option (ℕ × ℕ)) (slots : List (Option Tuple)) (item : ℕ) (t : Tuple) → Stands n items o slots → IsNew n items o item → Stands n (item ∷ items) o (slice_set slots item (Some t))
 new_stands n items o slots item t s new = record {
   long = length_set slots item (Some t) ∙ s.long;
-  empty = λ i a b. let k = or_none (nat_eq i item) (is_among items i) a in slot_other slots item i t k.0 ∙ s.empty i k.1 b;
+  empty = λ i a b. let k = or_parts (nat_eq i item) (is_among items i) a in slot_other slots item i t k.0 ∙ s.empty i k.1 b;
   bound = by o s.bound new.unbound;
 }
   where
     by : (o : Option (ℕ × ℕ)) → BoundStands n items slots o → is_bound o item ≡ false → BoundStands n (item ∷ items) (slice_set slots item (Some t)) o
     by None h e = tt
     by (Some b) (u, is, long, apart, within) e =
-        let other = eq_turned item b.0 e in
+        let other = differs_turned item b.0 e in
         (u, slot_other slots item b.0 t other ∙ is, long, ap (λ x. x || is_among items b.0) other ∙ apart, within)
+
+-- what is among the items is among one more
+listed_later : (items : List ℕ) (item i : ℕ) → is_among items i ≡ true → is_among (item ∷ items) i ≡ true
+listed_later items item i k = or_right (nat_eq i item) (is_among items i) k
 
 pub new_below : (n : ℕ) (items : List ℕ) (o : Option (ℕ × ℕ)) (slots zs : List (Option Tuple)) (item : ℕ) (t : Tuple) → Stands n items o slots → IsNew n items o item → Above (item ∷ items) o (slice_set slots item (Some t)) zs
     → Above items o slots zs × (slot_at zs item ≡ Some t)
 new_below n items o slots zs item t s new a =
     let within : item < length slots = subst (λ k. item < k) (sym s.long) new.within in
     let itself : is_among (item ∷ items) item ≡ true = ap (λ b. b || is_among items item) ((Decides-eqb item item).1 refl) in (
-      record { chosen = λ i k. a.chosen i (later i k) ∙ slot_other slots item i t (not_among items i item new.apart k); bound = by o a.bound new.unbound },
+      record { chosen = λ i k. a.chosen i (listed_later items item i k) ∙ slot_other slots item i t (not_among items i item new.apart k); bound = by o a.bound new.unbound },
       a.chosen item itself ∙ slot_set slots item t within,
     )
   where
-    later : (i : ℕ) → is_among items i ≡ true → is_among (item ∷ items) i ≡ true
-    later i k = ap (λ b. nat_eq i item || b) k ∙ or_true (nat_eq i item)
-      where
-        or_true : (b : Bool) → (b || true) ≡ true
-        or_true true = refl
-        or_true false = refl
-
     by : (o : Option (ℕ × ℕ)) → BoundAbove (slice_set slots item (Some t)) zs o → is_bound o item ≡ false → BoundAbove slots zs o
     by None h e = tt
-    by (Some b) (u, v, rest, is, up, vals) e = (u, v, rest, sym (slot_other slots item b.0 t (eq_turned item b.0 e)) ∙ is, up, vals)
+    by (Some b) (u, v, rest, is, up, vals) e = (u, v, rest, sym (slot_other slots item b.0 t (differs_turned item b.0 e)) ∙ is, up, vals)
 
 pub new_above : (n : ℕ) (items : List ℕ) (o : Option (ℕ × ℕ)) (slots zs : List (Option Tuple)) (item : ℕ) (t : Tuple) → Stands n items o slots → IsNew n items o item → Above items o slots zs → slot_at zs item ≡ Some t
     → Above (item ∷ items) o (slice_set slots item (Some t)) zs
@@ -217,7 +204,7 @@ new_above n items o slots zs item t s new a e = record { chosen = at; bound = by
 
     by : (o : Option (ℕ × ℕ)) → BoundAbove slots zs o → is_bound o item ≡ false → BoundAbove (slice_set slots item (Some t)) zs o
     by None h x = tt
-    by (Some b) (u, v, rest, is, up, vals) x = (u, v, rest, slot_other slots item b.0 t (eq_turned item b.0 x) ∙ is, up, vals)
+    by (Some b) (u, v, rest, is, up, vals) x = (u, v, rest, slot_other slots item b.0 t (differs_turned item b.0 x) ∙ is, up, vals)
 
 -- ---- one more column is bound
 
@@ -359,7 +346,7 @@ whole_stands n items o slots item rel size w s =
     let u = tuple_of rel w.tuple.vals in
     record {
       long = length_set slots item (Some u) ∙ s.long;
-      empty = λ i a b. let k = or_none (nat_eq i item) (is_among items i) a in slot_other slots item i u k.0 ∙ s.empty i k.1 (ap (λ x. is_bound x i) w.is ∙ k.0);
+      empty = λ i a b. let k = or_parts (nat_eq i item) (is_among items i) a in slot_other slots item i u k.0 ∙ s.empty i k.1 (ap (λ x. is_bound x i) w.is ∙ k.0);
       bound = tt;
     }
 
@@ -370,18 +357,11 @@ whole_below n items o slots zs item rel size w s a =
     let itself : is_among (item ∷ items) item ≡ true = ap (λ b. b || is_among items item) ((Decides-eqb item item).1 refl) in
     let up : slot_at zs item ≡ Some u = a.chosen item itself ∙ slot_set slots item u (subst (λ k. item < k) (sym s.long) w.within) in (
       record {
-        chosen = λ i k. a.chosen i (later i k) ∙ slot_other slots item i u (not_among items i item w.apart k);
+        chosen = λ i k. a.chosen i (listed_later items item i k) ∙ slot_other slots item i u (not_among items i item w.apart k);
         bound = subst (BoundAbove slots zs) (sym w.is) (w.tuple, u, [], w.there, up, sym (append_none w.tuple.vals));
       },
       up,
     )
-  where
-    later : (i : ℕ) → is_among items i ≡ true → is_among (item ∷ items) i ≡ true
-    later i k = ap (λ b. nat_eq i item || b) k ∙ or_true (nat_eq i item)
-      where
-        or_true : (b : Bool) → (b || true) ≡ true
-        or_true true = refl
-        or_true false = refl
 
 pub whole_above : (n : ℕ) (items : List ℕ) (o : Option (ℕ × ℕ)) (slots zs : List (Option Tuple)) (item rel size : ℕ) (w : IsWhole n items o slots item size) (u : Tuple) → Stands n items o slots → Above items o slots zs
     → slot_at zs item ≡ Some u → u.rel ≡ rel → length u.vals ≡ size → (u ≡ tuple_of rel w.tuple.vals) × Above (item ∷ items) None (slice_set slots item (Some (tuple_of rel w.tuple.vals))) zs

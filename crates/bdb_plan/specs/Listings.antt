@@ -6,10 +6,10 @@ use Rattle.bdb_base.specs.declared.kinds.Item.TheVariants.{Users, Rel}
 use Rattle.bdb_base.specs.declared.kinds.Kind.TheVariants as kinds
 use Rattle.bdb_base.specs.declared.kinds.Operand.TheVariants.{Col, Lit}
 use Rattle.bdb_base.specs.declared.kinds.Query.{Query}
-use Rattle.bdb_base.specs.declared.kinds.Ref.{Ref}
 use Rattle.bdb_base.specs.declared.kinds.Sign.TheVariants.{Plus, Minus}
 use Rattle.bdb_base.specs.declared.kinds.Value.TheVariants.{Text}
 use Rattle.bdb_base.specs.declared.kinds.Who.TheVariants.{Of}
+use Rattle.bdb_base.specs.Safety.{column}
 use Rattle.bdb_plan.specs.PlanOf.{plan_of}
 use Rattle.bdb_plan.specs.PlanText.{plan_text}
 
@@ -19,9 +19,6 @@ sightings = record {
   rels = record { name = codes "S"; cols = record { name = codes "k"; kind = kinds.Text } ∷ record { name = codes "v"; kind = kinds.Text } ∷ []; key = 1 } ∷ [];
   users = [];
 }
-
-abbrev pub column : ℕ → ℕ → Ref
-column item col = record { item = item; col = col }
 
 -- who denies what is plainly stated: `select U.name from Users U, BELIEF S X, BELIEF U.uid not S Y where Y.k = X.k and Y.v = X.v`
 abbrev pub deniers : Query

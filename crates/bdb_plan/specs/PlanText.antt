@@ -1,5 +1,5 @@
 -- The text of a plan.
-use Rattle.std.specs.Prelude.{ℕ, ◌==◌, if◌then◌else◌, codes, List, [], ◌∷◌, ◌++◌, Option, Some, None, map, unwrap_or}
+use Rattle.std.specs.Prelude.{ℕ, ◌==◌, if◌then◌else◌, codes, List, [], ◌∷◌, ◌++◌, Option, Some, None, map}
 use Rattle.std.specs.List.{flat_map, slice_get}
 use Rattle.std.specs.Option.{option_map_or}
 use Rattle.bdb_base.specs.declared.kinds.Catalog.{Catalog}
@@ -11,15 +11,11 @@ use Rattle.bdb_base.specs.declared.kinds.Query.{Query}
 use Rattle.bdb_base.specs.declared.kinds.Ref.{Ref}
 use Rattle.bdb_base.specs.declared.kinds.Who.{Who}
 use Rattle.bdb_base.specs.declared.kinds.Who.TheVariants.{User, Of}
-use Rattle.bdb_base.specs.Queries.{columns_at, user_name as name_of}
-use Rattle.bdb_base.specs.Texts.{cmp_text, dotted, joined, quoted, value_text, line}
+use Rattle.bdb_base.specs.Queries.{columns_at}
+use Rattle.bdb_base.specs.Texts.{cmp_text, dotted, joined, quoted, value_text, line, user_text}
 use Rattle.bdb_plan.specs.declared.step.Step.{Step}
 use Rattle.bdb_plan.specs.declared.step.Step.TheVariants as step
 use Rattle.bdb_plan.specs.Fitness.{Fields}
-
--- the name of a live user, by his number; empty where there is none
-abbrev pub user_name : Catalog → ℕ → List ℕ
-user_name c uid = unwrap_or (name_of c.users uid) []
 
 -- the alias of an item; empty where there is none
 abbrev pub alias_of : Option Item → List ℕ
@@ -46,7 +42,7 @@ ref_text c q r = dotted (alias_at q r.item) (column_of c r.col (slice_get q.item
 
 -- a user of a path: the name in quotes, or the uid of a `Users` item
 unfoldable pub who_text : Catalog → Query → Who → List ℕ
-who_text c q (User uid) = quoted (user_name c uid)
+who_text c q (User uid) = quoted (user_text c uid)
 who_text c q (Of item) = dotted (alias_at q item) (codes "uid")
 
 unfoldable pub operand_text : Catalog → Query → Operand → List ℕ

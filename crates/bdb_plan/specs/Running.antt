@@ -47,15 +47,15 @@ denied keys rows s item rel None = None
 denied keys rows s item rel (Some t) = cond (rows_deny keys rows (tuple_of rel t.vals)) (Some (with_slot s item (tuple_of rel t.vals))) None
 
 -- where a step leads at which nothing is chosen; none where it does not hold
-abbrev pub settled : Sight → Reached → Step → Option Reached
-settled sight s (step.User item) = None
-settled sight s (step.Start item) = Some (with_world s 0)
-settled sight s (step.Edge item who) = option_map (with_world s) (option_and_then (sight.edge s.world) (uid_of s.slots who))
-settled sight s (step.Differ item left right) = reached_if (differ (uid_of s.slots left) (uid_of s.slots right)) s
-settled sight s (step.Pos item rel) = None
-settled sight s (step.Bind item col right) = option_map (λ v. with_slot s item (with_value (slot_at s.slots item) v)) (known_operand s.slots right)
-settled sight s (step.Neg item rel) = denied sight.keys (sight.rows s.world rel) s item rel (slot_at s.slots item)
-settled sight s (step.Test c) = reached_if (must_hold s.slots c) s
+abbrev pub decided : Sight → Reached → Step → Option Reached
+decided sight s (step.User item) = None
+decided sight s (step.Start item) = Some (with_world s 0)
+decided sight s (step.Edge item who) = option_map (with_world s) (option_and_then (sight.edge s.world) (uid_of s.slots who))
+decided sight s (step.Differ item left right) = reached_if (differ (uid_of s.slots left) (uid_of s.slots right)) s
+decided sight s (step.Pos item rel) = None
+decided sight s (step.Bind item col right) = option_map (λ v. with_slot s item (with_value (slot_at s.slots item) v)) (known_operand s.slots right)
+decided sight s (step.Neg item rel) = denied sight.keys (sight.rows s.world rel) s item rel (slot_at s.slots item)
+decided sight s (step.Test c) = reached_if (must_hold s.slots c) s
 
 -- what a step chooses from, and for which item: `User` from the users, `Pos` from the tuples that the world has with plus
 abbrev pub choices : Sight → Reached → Step → Option (ℕ × List Tuple)
@@ -70,7 +70,7 @@ with_choice s None next = option_list next
 
 -- where a step leads
 abbrev pub after : Sight → Reached → Step → List Reached
-after sight s x = with_choice s (choices sight s x) (settled sight s x)
+after sight s x = with_choice s (choices sight s x) (decided sight s x)
 
 -- the rows that come of steps
 abbrev pub rows_from : Sight → List Ref → List Step → Reached → List (List Value)
@@ -96,13 +96,13 @@ choice_reads sight s _ = 0
 
 -- How often a step reads at most at which nothing is chosen. To deny a tuple it reads how long the relation's key is, the
 -- tuple's number, each row, and once more.
-abbrev pub settled_reads : Sight → Reached → Step → ℕ
-settled_reads sight s (step.Edge item who) = 1
-settled_reads sight s (step.Neg item rel) = length (sight.rows s.world rel) + 3
-settled_reads sight s _ = 0
+abbrev pub decided_reads : Sight → Reached → Step → ℕ
+decided_reads sight s (step.Edge item who) = 1
+decided_reads sight s (step.Neg item rel) = length (sight.rows s.world rel) + 3
+decided_reads sight s _ = 0
 
 abbrev pub own_reads : Sight → Reached → Step → ℕ
-own_reads sight s x = choice_reads sight s x + settled_reads sight s x
+own_reads sight s x = choice_reads sight s x + decided_reads sight s x
 
 -- how often steps read at most: the rest is run again for each choice
 abbrev pub reads_from : Sight → List Step → Reached → ℕ

@@ -1,8 +1,8 @@
 // The text of a plan.
 ghost use Rattle.std.specs.Prelude.{◌≡◌, ◌++◌, map, IfOk, OnOk};
 ghost use Rattle.std.specs.List.{flat_map, slice_get};
-ghost use Rattle.bdb_base.specs.Texts.{joined, line};
-ghost use Rattle.bdb_plan.specs.PlanText.{alias_at, column_of, operand_text, plan_text, ref_text, relation_column, step_text, take_text, user_name, who_text};
+ghost use Rattle.bdb_base.specs.Texts.{joined, line, user_text};
+ghost use Rattle.bdb_plan.specs.PlanText.{alias_at, column_of, operand_text, plan_text, ref_text, relation_column, step_text, take_text, who_text};
 
 use crate::plan::Plan;
 use crate::step::Step;
@@ -213,7 +213,7 @@ fn append_who(
     ensures { OnOk result (out.new.items ≡ out.old.items ++ who_text catalog.now query.now who) }
 {
     match who {
-        Who::User(uid) => append_quoted(out, user_name(catalog, uid)),
+        Who::User(uid) => append_quoted(out, user_text(catalog, uid)),
         Who::Of(item) => append_dotted(out, alias_at(query, item), b"uid"),
     }
 }
@@ -279,8 +279,8 @@ fn relation_column(catalog: &Catalog, rel: u32, col: u32) -> &[u8]
 }
 
 // The name of a live user; empty where there is none.
-fn user_name(catalog: &Catalog, uid: u32) -> &[u8]
-    ensures { result.now ≡ user_name catalog.now uid }
+fn user_text(catalog: &Catalog, uid: u32) -> &[u8]
+    ensures { result.now ≡ user_text catalog.now uid }
 {
     match bdb_base::user_name(catalog.users.as_slice(), uid) {
         Some(name) => name.as_bytes(),

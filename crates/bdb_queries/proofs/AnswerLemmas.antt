@@ -1,5 +1,5 @@
 -- The list of answers has the answers, and is the only list that does.
-use Rattle.std.proofs.Common.{◌≡◌, ◌∙◌, ℕ, ◌+◌, ◌<◌, ◌≤◌, Bool, true, false, ◌&&◌, nat_eq, List, [], ◌∷◌, length, inl, inr, refl, ap, sym, suc, None, Some, Option, filter, map, arith}
+use Rattle.std.proofs.Common.{◌≡◌, ◌∙◌, ℕ, ◌+◌, ◌<◌, ◌≤◌, Bool, true, false, ◌&&◌, nat_eq, List, [], ◌∷◌, length, inl, inr, ap, sym, suc, None, Some, Option, filter, map, arith}
 use Rattle.std.specs.List.{list_any, list_all, slice_get, flat_map}
 use Rattle.std.specs.Ordering.{is_eq}
 use Rattle.std.proofs.lemmas.Bool.{false≢true, cases_eq, or_cases, or_left, or_right, and_parts, and_from, eqb-true}
@@ -7,13 +7,12 @@ use Rattle.bdb_base.specs.declared.kinds.ColDef.{ColDef}
 use Rattle.bdb_base.specs.declared.kinds.Item.{Item}
 use Rattle.bdb_base.specs.declared.kinds.Item.TheVariants.{Users, Rel}
 use Rattle.bdb_base.specs.declared.kinds.Query.{Query}
-use Rattle.bdb_base.specs.declared.kinds.RelDef.{RelDef}
 use Rattle.bdb_base.specs.declared.kinds.UserSlot.{UserSlot}
 use Rattle.bdb_base.specs.declared.kinds.Value.{Value}
-use Rattle.bdb_base.specs.Bases.{Contents, is_user, fits_kind, fits_columns, fits_definition, fits_relation}
+use Rattle.bdb_base.specs.Bases.{Contents, is_user, fits_kind, fits_columns, fits_relation}
 use Rattle.bdb_base.specs.Order.{row_cmp}
 use Rattle.bdb_base.specs.OrderLemmas.{row_exact}
-use Rattle.bdb_base.specs.Queries.{Choice, ChosenUser, ChosenTuple, chosen_row, chosen_path, cond_holds, path_believes, item_holds, items_hold, holds_in, in_domain, choice_within, is_true_assignment, numbers_from, user_numbers, option_list, columns_at, columns_of_definition, rows_over, choices_over, assignments_over, answers_over, IsAnswer}
+use Rattle.bdb_base.specs.Queries.{Choice, ChosenUser, ChosenTuple, chosen_row, chosen_path, cond_holds, path_believes, item_holds, items_hold, holds_in, in_domain, choice_within, is_true_assignment, numbers_from, user_numbers, option_list, columns_at, rows_over, choices_over, assignments_over, answers_over, IsAnswer}
 use Rattle.bdb_base.specs.Same.{same_value}
 use Rattle.bdb_base.specs.SameLemmas.{same_value-Decides}
 use Rattle.bdb_base.specs.SortedSet.{is_member}
@@ -21,8 +20,11 @@ use Rattle.bdb_base.proofs.SetLemmas.{is_eq-Equal, is_eq_itself, members_make_se
 use Rattle.bdb_base.proofs.UserLemmas.{user_above, user_within}
 use Rattle.bdb_base.proofs.WorldLemmas.{list_any_weaker, found_by}
 use Rattle.bdb_base.proofs.WorldRowsLemmas.{list_any-flat_map}
+use Rattle.bdb_base.proofs.BoolLemmas.{same_tests}
+use Rattle.bdb_base.proofs.FindLemmas.{list_any-filter}
+use Rattle.bdb_base.proofs.BaseLemmas.{fits_its_columns}
 use Rattle.bdb_queries.specs.QueryLaws.{AnswersAreTheAnswers, AnswersAreOneList}
-use Rattle.bdb_queries.proofs.FoundLemmas.{Found, list_any-filter, found_first, found-map, found-flat_map, found-filter}
+use Rattle.bdb_queries.proofs.FoundLemmas.{Found, found_first, found-map, found-flat_map, found-filter}
 
 -- ---- all that can be chosen is among the choices
 
@@ -52,10 +54,6 @@ found_row dom (c ∷ cs) (v ∷ vs) f h =
     let m = and_parts (in_domain dom v) (list_all (in_domain dom) vs) h in
     found-flat_map (λ w. map (λ ws. w ∷ ws) (rows_over dom cs)) dom v (v ∷ vs) (found_in_domain dom v m.0)
     (found-map (λ ws. v ∷ ws) (rows_over dom cs) vs (found_row dom cs vs k.1 m.1))
-
-pub fits_its_columns : (def : Option RelDef) (vals : List Value) → fits_definition def vals ≡ true → fits_columns (columns_of_definition def) vals ≡ true
-fits_its_columns None vals h = absurd (false≢true h)
-fits_its_columns (Some def) vals h = h
 
 pub found_choice : (b : Contents) (dom : List Value) (chosen : List Choice) (item : Item) (c : Choice) → item_holds b chosen item c ≡ true → choice_within dom c ≡ true → Found c (choices_over b dom item)
 found_choice b dom chosen (Users alias) (ChosenUser uid) h w p e = found-map ChosenUser (user_numbers b.catalog.users) uid (found_user b.catalog.users uid h) p e
@@ -124,12 +122,6 @@ answers_are_the_answers b dom q = record {
   sound = member_is_answer b dom q;
   whole = answer_is_member b dom q;
 }
-
--- two tests that follow from each other are one
-same_tests : (a b : Bool) → (a ≡ true → b ≡ true) → (b ≡ true → a ≡ true) → a ≡ b
-same_tests true b h g = sym (h refl)
-same_tests false true h g = g refl
-same_tests false false h g = refl
 
 pub answers_are_one_list : AnswersAreOneList
 answers_are_one_list b dom q rows more h g = members_make_set row_exact rows more h.sorted g.sorted

@@ -5,19 +5,12 @@ use Rattle.std.specs.List.{list_any, list_all, slice_get, flat_map}
 use Rattle.std.specs.Option.{option_map}
 use Rattle.std.proofs.lemmas.Bool.{false≢true, cases_Bool, or_cases, or_left, or_right, and_parts, and_from}
 use Rattle.bdb_base.proofs.CountLemmas.{list_any-map}
-use Rattle.bdb_base.proofs.ListLemmas.{filter_kept_one, filter_dropped_one}
 use Rattle.bdb_base.proofs.WorldRowsLemmas.{list_any-flat_map}
+use Rattle.bdb_base.proofs.FindLemmas.{list_any-filter}
 
 -- an item is in a list: each test that it passes finds one there
 abbrev pub Found : {X : Type 0} → X → List X → Type 0
 Found {X} x xs = (p : X → Bool) → p x ≡ true → list_any p xs ≡ true
-
-pub list_any-filter : {X : Type 0} (p q : X → Bool) (xs : List X) → list_any p (filter q xs) ≡ list_any (λ x. q x && p x) xs
-list_any-filter p q [] = refl
-list_any-filter p q (x ∷ xs) = elim (cases_Bool (q x)) [
-  | inl e ↦ ap (list_any p) (filter_kept_one q x xs e) ∙ ap (λ b. p x || b) (list_any-filter p q xs) ∙ ap (λ b. (b && p x) || list_any (λ y. q y && p y) xs) (sym e)
-  | inr e ↦ ap (list_any p) (filter_dropped_one q x xs e) ∙ list_any-filter p q xs ∙ ap (λ b. (b && p x) || list_any (λ y. q y && p y) xs) (sym e)
-]
 
 pub found_first : {X : Type 0} (x : X) (xs : List X) → Found x (x ∷ xs)
 found_first x xs p e = or_left (p x) (list_any p xs) e

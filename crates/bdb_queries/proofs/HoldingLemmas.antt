@@ -23,6 +23,7 @@ use Rattle.bdb_base.specs.Conditions.{compare_so}
 use Rattle.bdb_base.specs.Queries.{Choice, ChosenUser, ChosenTuple, user_name, user_column, choice_column, chosen_value, chosen_operand, cond_holds, chosen_user, user_of, chosen_path, path_believes, item_holds, items_hold, chosen_row}
 use Rattle.bdb_base.specs.Safety.{is_users_item, who_fits, fixed_differ, item_fits, query_fits}
 use Rattle.bdb_base.proofs.UserLemmas.{user_lives}
+use Rattle.bdb_base.proofs.ListLemmas.{list_all_same}
 use Rattle.bdb_queries.specs.QueryLaws.{IsHeldRow}
 use Rattle.bdb_queries.specs.Slots.{slot_at, known, known_operand, must_hold, must_all_hold, known_row, uid_of, path_of, user_tuple}
 
@@ -102,10 +103,6 @@ pub operand_is_chosen : (users : List UserSlot) (chosen : List Choice) → list_
     → known_operand (map (slot_of users) chosen) o ≡ chosen_operand users chosen o
 operand_is_chosen users chosen h (Col r) = known_is_chosen users chosen h r
 operand_is_chosen users chosen h (Lit v) = refl
-
-list_all_same : {X : Type 0} (p q : X → Bool) → ((x : X) → p x ≡ q x) → (xs : List X) → list_all p xs ≡ list_all q xs
-list_all_same p q h [] = refl
-list_all_same p q h (x ∷ xs) = ap (λ b. b && list_all p xs) (h x) ∙ ap (λ b. q x && b) (list_all_same p q h xs)
 
 -- the comparisons hold of both or of neither
 pub conds_are_chosen : (users : List UserSlot) (chosen : List Choice) → list_all (is_choice users) chosen ≡ true → (conds : List Cond)

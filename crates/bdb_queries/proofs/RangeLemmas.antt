@@ -5,8 +5,6 @@ use Rattle.std.specs.List.{list_all, slice_get}
 use Rattle.std.specs.Option.{is_some, option_and_then}
 use Rattle.std.proofs.lemmas.Bool.{false≢true, or_cases, or_left, and_parts, eqb-true}
 use Rattle.std.proofs.lemmas.Option.{same_Some}
-use Rattle.bdb_base.specs.declared.kinds.Cmp.{Cmp}
-use Rattle.bdb_base.specs.declared.kinds.Cmp.TheVariants.{Eq, Ne, Lt, Le, Gt, Ge}
 use Rattle.bdb_base.specs.declared.kinds.ColDef.{ColDef}
 use Rattle.bdb_base.specs.declared.kinds.Cond.{Cond}
 use Rattle.bdb_base.specs.declared.kinds.Item.{Item}
@@ -20,43 +18,21 @@ use Rattle.bdb_base.specs.declared.kinds.UserSlot.{UserSlot}
 use Rattle.bdb_base.specs.declared.kinds.Value.{Value}
 use Rattle.bdb_base.specs.Bases.{Contents, fits_kind, fits_columns, fits_relation}
 use Rattle.bdb_base.specs.Conditions.{compare_so}
-use Rattle.bdb_base.specs.Order.{value_cmp}
-use Rattle.bdb_base.specs.OrderLemmas.{value_exact}
 use Rattle.bdb_base.specs.Queries.{Choice, ChosenUser, ChosenTuple, choice_column, chosen_value, chosen_operand, chosen_path, cond_holds, path_believes, item_holds, items_hold, in_domain, literal_of, columns_at}
 use Rattle.bdb_base.specs.Safety.{is_minus, same_column, is_equality, is_column, is_literal, pins, links, item_kinds, column_kind, IsBound, given, pinned, linked}
 use Rattle.bdb_base.specs.Same.{same_value}
 use Rattle.bdb_base.specs.SameLemmas.{same_value-Decides}
-use Rattle.bdb_base.proofs.SetLemmas.{is_eq-Equal}
 use Rattle.bdb_base.proofs.WorldRowsLemmas.{list_any-flat_map}
+use Rattle.bdb_base.proofs.ConditionLemmas.{same_column_is, equality_is, equal_sides}
+use Rattle.bdb_base.proofs.BaseLemmas.{fits_its_columns}
 use Rattle.bdb_queries.specs.QueryLaws.{IsInRange, MinusValuesAreInRange}
 use Rattle.bdb_queries.proofs.FoundLemmas.{list_any_both, found_both}
-use Rattle.bdb_queries.proofs.AnswerLemmas.{fits_its_columns}
 
 -- ---- what comparisons say
 
 -- the number of an item and a column
 abbrev ref_of : ℕ → ℕ → Ref
 ref_of item col = record { item = item; col = col }
-
-pub same_column_is : (r s : Ref) → same_column r s ≡ true → r ≡ s
-same_column_is r s h =
-    let k = and_parts (nat_eq r.item s.item) (nat_eq r.col s.col) h in
-    ap (λ item. ref_of item r.col) (eqb-true r.item s.item k.0) ∙ ap (λ col. ref_of s.item col) (eqb-true r.col s.col k.1)
-
--- only one comparison is equality
-pub equality_is : (cmp : Cmp) → is_equality cmp ≡ true → cmp ≡ Eq
-equality_is Eq h = refl
-equality_is Ne h = absurd (false≢true h)
-equality_is Lt h = absurd (false≢true h)
-equality_is Le h = absurd (false≢true h)
-equality_is Gt h = absurd (false≢true h)
-equality_is Ge h = absurd (false≢true h)
-
--- an equality that holds has one value on both sides
-pub equal_sides : (a b : Option Value) → compare_so Eq a b ≡ true → (v : Value) × (a ≡ Some v) × (b ≡ Some v)
-equal_sides None b h = absurd (false≢true h)
-equal_sides (Some x) None h = absurd (false≢true h)
-equal_sides (Some x) (Some y) h = (x, refl, ap Some (sym (value_exact.exact x y (is_eq-Equal (value_cmp x y) h))))
 
 pub sides_are_equal : (users : List UserSlot) (chosen : List Choice) (c : Cond) → is_equality c.cmp ≡ true → cond_holds users chosen c ≡ true
     → (v : Value) × (chosen_value users chosen c.left ≡ Some v) × (chosen_operand users chosen c.right ≡ Some v)

@@ -1,5 +1,5 @@
 //! What holds of queries and their answers, each law as the contract of a function that does nothing; the rows found so far,
-//! which each way to answer a query collects; and what is chosen for a query's items where tuples aren't shared.
+//! which each way to answer a query collects; and what is chosen for a query's items.
 #![tactic(auto)]
 
 mod found;
@@ -8,5 +8,6 @@ mod slots;
 
 pub use found::Found;
 pub use slots::{
-    known, known_operand, known_row, must_all_hold, path_of, user_tuple, user_tuples, with_chosen,
+    Slot, known, known_operand, known_row, must_all_hold, must_hold, path_of, uid_of, user_tuple,
+    user_tuples, with_chosen,
 };

@@ -10,30 +10,46 @@ use bdb_base::{
 };
 use std::alloc::{AllocError, Global};
 
-/// What is chosen for the item at a place.
-fn slot_at(slots: &[Option<Tuple>], at: usize) -> Option<&Tuple>
-    ensures { option_copied result ≡ slot_at slots.now at }
-{
-    match slots.get(at) {
-        Some(Some(tuple)) => Some(tuple),
-        Some(None) => None,
-        None => None,
+/// What stands in a slot: a tuple, by itself or shared.
+pub trait Slot {
+    ghost use Rattle.std.specs.Prelude.{◌≡◌, List, Option};
+    ghost use Rattle.std.specs.Option.{option_copied};
+    ghost use Rattle.bdb_base.specs.declared.tuple.Tuple.{Tuple};
+    ghost use Rattle.bdb_queries.specs.Slots.{slot_at};
+
+    // the tuples that are chosen
+    ghost chosen: { List (Option Self) → List (Option Tuple) };
+
+    /// What is chosen for the item at a place.
+    fn slot_at(slots: &[Option<Self>], at: usize) -> Option<&Tuple>
+        ensures { option_copied result ≡ slot_at (chosen slots.now) at };
+}
+
+impl Slot for Tuple {
+    ghost chosen = { λ slots. slots };
+
+    fn slot_at(slots: &[Option<Tuple>], at: usize) -> Option<&Tuple> {
+        match slots.get(at) {
+            Some(Some(tuple)) => Some(tuple),
+            Some(None) => None,
+            None => None,
+        }
     }
 }
 
 /// The value of a column, where its item is chosen.
-pub fn known(slots: &[Option<Tuple>], r: Ref) -> Option<&Value>
-    ensures { option_copied result ≡ known slots.now r }
+pub fn known<S: Slot>(slots: &[Option<S>], r: Ref) -> Option<&Value>
+    ensures { option_copied result ≡ known (S.chosen slots.now) r }
 {
-    match slot_at(slots, r.item as usize) {
+    match S::slot_at(slots, r.item as usize) {
         Some(tuple) => tuple.vals.get(r.col as usize),
         None => None,
     }
 }
 
 /// The value of a comparison's right side, where it is known.
-pub fn known_operand<'a>(slots: &'a [Option<Tuple>], operand: &'a Operand) -> Option<&'a Value>
-    ensures { option_copied result ≡ known_operand slots.now operand.now }
+pub fn known_operand<'a, S: Slot>(slots: &'a [Option<S>], operand: &'a Operand) -> Option<&'a Value>
+    ensures { option_copied result ≡ known_operand (S.chosen slots.now) operand.now }
 {
     match operand {
         Operand::Col(r) => known(slots, *r),
@@ -81,8 +97,8 @@ pub fn must_all_hold(slots: &[Option<Tuple>], conds: &[Cond]) -> bool
 }
 
 /// Whether a comparison is known to hold.
-fn must_hold(slots: &[Option<Tuple>], cond: &Cond) -> bool
-    ensures { result ≡ must_hold slots.now cond.now }
+pub fn must_hold<S: Slot>(slots: &[Option<S>], cond: &Cond) -> bool
+    ensures { result ≡ must_hold (S.chosen slots.now) cond.now }
 {
     match (known(slots, cond.left), known_operand(slots, &cond.right)) {
         (Some(left), Some(right)) => compares(cond.cmp, cmp_value(left, right)),
@@ -91,12 +107,12 @@ fn must_hold(slots: &[Option<Tuple>], cond: &Cond) -> bool
 }
 
 /// The values of columns, where all are known.
-pub fn known_row(
+pub fn known_row<S: Slot>(
     alloc: Global,
-    slots: &[Option<Tuple>],
+    slots: &[Option<S>],
     take: &[Ref],
 ) -> Result<Option<List<Value>>, AllocError>
-    ensures { IfOk result (λ row. row ≡ known_row slots.now take.now) }
+    ensures { IfOk result (λ row. row ≡ known_row (S.chosen slots.now) take.now) }
 {
     let mut row = List::new(alloc);
     for r in take {
@@ -127,12 +143,12 @@ pub fn path_of(
 }
 
 /// A user of a path: a fixed one, or the one chosen for a `Users` item.
-fn uid_of(slots: &[Option<Tuple>], who: Who) -> Option<u32>
-    ensures { result ≡ uid_of slots.now who }
+pub fn uid_of<S: Slot>(slots: &[Option<S>], who: Who) -> Option<u32>
+    ensures { result ≡ uid_of (S.chosen slots.now) who }
 {
     match who {
         Who::User(uid) => Some(uid),
-        Who::Of(item) => match slot_at(slots, item as usize) {
+        Who::Of(item) => match S::slot_at(slots, item as usize) {
             Some(tuple) => Some(tuple.rel),
             None => None,
         },

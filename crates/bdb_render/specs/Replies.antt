@@ -1,5 +1,5 @@
 -- The texts of replies.
-use Rattle.std.specs.Prelude.{ℕ, Bool, true, false, codes, List, [], ◌∷◌, ◌++◌, length, map, unwrap_or}
+use Rattle.std.specs.Prelude.{ℕ, Bool, true, false, codes, List, [], ◌∷◌, ◌++◌, length, map}
 use Rattle.std.specs.List.{flat_map, slice_get}
 use Rattle.std.specs.Option.{option_map_or}
 use Rattle.std.specs.Fmt.{decimal}
@@ -10,16 +10,11 @@ use Rattle.bdb_base.specs.declared.kinds.Sign.TheVariants.{Plus, Minus}
 use Rattle.bdb_base.specs.declared.kinds.Value.{Value}
 use Rattle.bdb_base.specs.declared.kinds.World.{World}
 use Rattle.bdb_base.specs.declared.tuple.Tuple.{Tuple}
-use Rattle.bdb_base.specs.Queries.{user_name as name_of}
-use Rattle.bdb_base.specs.Texts.{joined, quoted, value_text, line}
+use Rattle.bdb_base.specs.Texts.{joined, quoted, value_text, line, user_text}
 
 -- the name of a relation, by its number; empty where there is none
 abbrev pub relation_name : Catalog → ℕ → List ℕ
 relation_name catalog rel = option_map_or (λ def. def.name) (slice_get catalog.rels rel) []
-
--- the name of a live user, by his number; empty where there is none
-abbrev pub user_name : Catalog → ℕ → List ℕ
-user_name catalog uid = unwrap_or (name_of catalog.users uid) []
 
 -- values with a comma and a space between each two
 abbrev pub row_text : List Value → List ℕ
@@ -31,7 +26,7 @@ tuple_text catalog t = relation_name catalog t.rel ++ codes "(" ++ row_text t.va
 
 -- a user of a path: a slash, and the name in quotes
 abbrev pub step_text : Catalog → ℕ → List ℕ
-step_text catalog uid = codes "/" ++ quoted (user_name catalog uid)
+step_text catalog uid = codes "/" ++ quoted (user_text catalog uid)
 
 -- a path: its users one after the other; a slash where there is none
 abbrev pub path_text : Catalog → List ℕ → List ℕ

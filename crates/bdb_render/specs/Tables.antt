@@ -8,13 +8,13 @@ use Rattle.bdb_base.specs.declared.kinds.RelDef.{RelDef}
 use Rattle.bdb_base.specs.declared.kinds.Sign.{Sign}
 use Rattle.bdb_base.specs.declared.tuple.Tuple.{Tuple}
 use Rattle.bdb_base.specs.Queries.{user_numbers}
-use Rattle.bdb_base.specs.Texts.{column_text, joined, quoted, line}
+use Rattle.bdb_base.specs.Texts.{column_text, joined, quoted, line, user_text}
 use Rattle.bdb_canon.specs.declared.structure.Canon.{Canon}
 use Rattle.bdb_canon.specs.declared.structure.CanonEdge.{CanonEdge}
 use Rattle.bdb_canon.specs.declared.structure.CanonRow.{CanonRow}
 use Rattle.bdb_canon.specs.declared.structure.CanonWorld.{CanonWorld}
 use Rattle.bdb_canon.specs.Canonical.{line_count}
-use Rattle.bdb_render.specs.Replies.{count_reply, mark_text, path_text, signed_text, tuple_text, user_name}
+use Rattle.bdb_render.specs.Replies.{count_reply, mark_text, path_text, signed_text, tuple_text}
 
 -- the path of the state at a place; empty where there is none
 abbrev pub world_path : Canon → ℕ → List ℕ
@@ -26,7 +26,7 @@ signed_at catalog k sign at = option_map_or (signed_text catalog sign) (slice_ge
 
 -- the number and the name of a live user
 abbrev pub user_line : Catalog → ℕ → List ℕ
-user_line catalog uid = line (codes "user " ++ decimal uid ++ codes " " ++ quoted (user_name catalog uid))
+user_line catalog uid = line (codes "user " ++ decimal uid ++ codes " " ++ quoted (user_text catalog uid))
 
 -- the name of a relation, and its columns in parentheses
 abbrev pub columns_text : RelDef → List ℕ
@@ -54,7 +54,7 @@ world_line catalog k w = line (codes "world " ++ path_text catalog w.path ++ cod
 
 -- a state, a user, and the state to which the edge leads
 abbrev pub edge_line : Catalog → Canon → CanonEdge → List ℕ
-edge_line catalog k e = line (codes "edge " ++ path_text catalog (world_path k e.from) ++ codes " " ++ quoted (user_name catalog e.uid) ++ codes " " ++ path_text catalog (world_path k e.to))
+edge_line catalog k e = line (codes "edge " ++ path_text catalog (world_path k e.from) ++ codes " " ++ quoted (user_text catalog e.uid) ++ codes " " ++ path_text catalog (world_path k e.to))
 
 -- a state, a signed tuple of its world, and whether it is stated there
 abbrev pub row_line : Catalog → Canon → CanonRow → List ℕ

@@ -48,7 +48,7 @@ fn append_steps(out: &mut Vec<u8>, catalog: &Catalog, path: &[u32]) -> Result<()
 {
     for uid in path {
         out.push(b'/')?;
-        append_quoted(out, names::user_name(catalog, *uid))?;
+        append_quoted(out, names::user_text(catalog, *uid))?;
     }
     Ok(())
 }

@@ -1,7 +1,8 @@
 // Names by their numbers.
 ghost use Rattle.std.specs.Prelude.{◌≡◌, ◌+◌};
 ghost use Rattle.bdb_base.specs.Bases.{is_user};
-ghost use Rattle.bdb_render.specs.Replies.{relation_name, user_name};
+ghost use Rattle.bdb_base.specs.Texts.{user_text};
+ghost use Rattle.bdb_render.specs.Replies.{relation_name};
 ghost use Rattle.bdb_render.specs.Tables.{world_path};
 
 use bdb_base::{Catalog, name_at};
@@ -18,8 +19,8 @@ pub fn relation_name(catalog: &Catalog, rel: u32) -> &[u8]
 }
 
 /// The name of a live user; empty where there is none of that number.
-pub fn user_name(catalog: &Catalog, uid: u32) -> &[u8]
-    ensures { result.now ≡ user_name catalog.now uid }
+pub fn user_text(catalog: &Catalog, uid: u32) -> &[u8]
+    ensures { result.now ≡ user_text catalog.now uid }
 {
     match bdb_base::user_name(catalog.users.as_slice(), uid) {
         Some(name) => name.as_bytes(),
@@ -30,7 +31,7 @@ pub fn user_name(catalog: &Catalog, uid: u32) -> &[u8]
 /// The name of the live user at a place, whose number is one more; empty where there is none.
 #[tactic(auto, using(crate::proofs::UserLemmas::name_after))]
 pub fn user_name_at(catalog: &Catalog, at: usize) -> &[u8]
-    ensures { result.now ≡ user_name catalog.now (at + 1) }
+    ensures { result.now ≡ user_text catalog.now (at + 1) }
 {
     match name_at(catalog.users.as_slice(), at) {
         Some(name) => name.as_bytes(),

@@ -120,7 +120,7 @@ pub fn append_edge(
     out.extend_from_slice(b"edge ")?;
     append_path(out, catalog, names::world_path(canon, edge.from))?;
     out.push(b' ')?;
-    append_quoted(out, names::user_name(catalog, edge.uid))?;
+    append_quoted(out, names::user_text(catalog, edge.uid))?;
     out.push(b' ')?;
     append_path(out, catalog, names::world_path(canon, edge.to))?;
     out.push(b'\n')?;

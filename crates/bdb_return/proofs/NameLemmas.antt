@@ -4,6 +4,7 @@ use Rattle.std.specs.FinMap as tables
 use Rattle.bdb_base.specs.Bases.{Contents, world_count}
 use Rattle.bdb_base.specs.Causes.{Rises, RoseBy}
 use Rattle.bdb_base.specs.declared.kinds.RelDef.{RelDef}
+use Rattle.bdb_base.proofs.CauseLemmas.{rises_once}
 use Rattle.bdb_keep.specs.Seen.{Seen}
 use Rattle.bdb_keep.specs.Tables.{Tables}
 use Rattle.bdb_tables.specs.Codec.{place}
@@ -83,9 +84,6 @@ last_relation_keeps t m u rel same put = subst (λ (z : Tables). SameNumbers z u
 
 -- ---- how often is written
 
-rises_one : (a b c : ℕ) → b ≡ a → RoseBy 1 b c → Rises 1 a c
-rises_one a b c still one below = omega arith
-
 module _ (old new : Seen) (n : Named) where
   pub nothing_lost_written : new.writes ≡ old.writes → n ≡ Nothing → WritesLoss old new n
   nothing_lost_written still e = subst (WritesLoss old new) (sym e) (λ a h below. omega (arith, still))
@@ -103,10 +101,10 @@ module _ (old new : Seen) (n : Named) where
   user_left_written uid name e writes = subst (WritesGain old new) (sym e) (writes name)
 
 pub last_relation_written : (old mid new : Seen) → mid.writes ≡ old.writes → RoseBy 1 mid.writes new.writes → WritesLastRelation old new
-last_relation_written old mid new still one def a h = rises_one old.writes mid.writes new.writes still one
+last_relation_written old mid new still one def a h = rises_once old.writes mid.writes new.writes still one
 
 pub relation_got_written : (old mid new : Seen) (def : RelDef) → mid.writes ≡ old.writes → RoseBy 1 mid.writes new.writes → WritesGain old new (RelationAdded def)
-relation_got_written old mid new def still one a h = rises_one old.writes mid.writes new.writes still one
+relation_got_written old mid new def still one a h = rises_once old.writes mid.writes new.writes still one
 
 pub user_got_written : (old mid new : Seen) (uid : ℕ) (name : List ℕ) → mid.kept ≡ old.kept → mid.writes ≡ old.writes → IsNextUser old.kept uid → WritesUser mid new uid name
     → WritesGain old new (UserAdded name)

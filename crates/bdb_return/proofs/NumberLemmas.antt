@@ -6,15 +6,12 @@ use Rattle.std.proofs.lemmas.Bool.{cases_lt, false≢true}
 use Rattle.std.proofs.lemmas.Option.{none-some, slice_get_past}
 use Rattle.bdb_base.specs.declared.kinds.RelDef.{RelDef}
 use Rattle.bdb_base.specs.declared.kinds.UserSlot.{UserSlot}
+use Rattle.bdb_base.proofs.OptionLemmas.{nothing_mapped}
 use Rattle.bdb_keep.specs.Tables.{Tables}
 use Rattle.bdb_tables.specs.Gaps.{IsFirstGap}
 use Rattle.bdb_tables.specs.InUse.{rel_codec, user_codec}
 use Rattle.bdb_tables.specs.Stored.{slot_of}
 use Rattle.bdb_return.specs.Numbers.{IsNextRelation, IsNextUser}
-
-none_since : {X : Type 0} (bytes : X → List ℕ) (o : Option X) → option_map bytes o ≡ None → o ≡ None
-none_since bytes None e = refl
-none_since bytes (Some x) e = absurd (none-some (bytes x) (sym e))
 
 some_since : {X : Type 0} (bytes : X → List ℕ) (o : Option X) → is_some (option_map bytes o) ≡ true → is_some o ≡ true
 some_since bytes None e = e
@@ -49,7 +46,7 @@ pub next_user : (t : Tables) (uid : ℕ) → IsFirstGap t 2 1 uid → IsNextUser
 next_user t uid g b s =
     let users = b.catalog.users in
     let h = s.stored.users in
-    let e = gap_is (slot_of users) users 1 uid (slots_are users) g.from (none_since user_codec.row_bytes (slot_of users uid) (sym (h.rows uid g.fits) ∙ g.free))
+    let e = gap_is (slot_of users) users 1 uid (slots_are users) g.from (nothing_mapped user_codec.row_bytes (slot_of users uid) (sym (h.rows uid g.fits) ∙ g.free))
     (λ k from below. some_since user_codec.row_bytes (slot_of users k) (sym (ap is_some (h.rows k (omega (arith, below, g.fits)))) ∙ g.least k from below)) in
     omega (arith, e)
 
@@ -57,6 +54,6 @@ pub next_relation : (t : Tables) (rel : ℕ) → IsFirstGap t 3 0 rel → IsNext
 next_relation t rel g b s =
     let rels = b.catalog.rels in
     let h = s.stored.rels in
-    let e = gap_is (slice_get rels) rels 0 rel (rels_are rels) g.from (none_since rel_codec.row_bytes (slice_get rels rel) (sym (h.rows rel g.fits) ∙ g.free))
+    let e = gap_is (slice_get rels) rels 0 rel (rels_are rels) g.from (nothing_mapped rel_codec.row_bytes (slice_get rels rel) (sym (h.rows rel g.fits) ∙ g.free))
     (λ k from below. some_since rel_codec.row_bytes (slice_get rels k) (sym (ap is_some (h.rows k (omega (arith, below, g.fits)))) ∙ g.least k from below)) in
     omega (arith, e)

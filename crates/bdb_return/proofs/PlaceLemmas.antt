@@ -4,8 +4,7 @@ use Rattle.std.specs.List.{slice_get}
 use Rattle.std.specs.Ordering.{is_eq, nat_cmp}
 use Rattle.std.specs.FinMap as tables
 use Rattle.std.proofs.lemmas.Bool.{cases_Bool, cond-false, cond-true, eq-eqb, eqb-true, false≢true}
-use Rattle.std.proofs.lemmas.Bool.Decides.{nat_tests}
-use Rattle.std.proofs.lemmas.List.{length-set}
+use Rattle.std.proofs.lemmas.List.{length-set, length_push}
 use Rattle.std.proofs.lemmas.Option.{slice_get_past}
 use Rattle.bdb_base.specs.Bases.{Contents, IsValid, belongs, is_user, without_user, world_count}
 use Rattle.bdb_base.specs.Causes.{Rises, RoseBy}
@@ -15,9 +14,11 @@ use Rattle.bdb_base.specs.declared.kinds.Catalog.{Catalog}
 use Rattle.bdb_base.specs.declared.kinds.Stmt.{Stmt}
 use Rattle.bdb_base.specs.declared.kinds.UserSlot.{UserSlot}
 use Rattle.bdb_base.specs.declared.kinds.UserSlot.TheVariants.{Live, Gone}
+use Rattle.bdb_base.specs.OrderLemmas.{is_eq_nat_cmp}
 use Rattle.bdb_base.proofs.BaseLemmas.{belongs_parts}
 use Rattle.bdb_base.proofs.ListLemmas.{filter_all, list_all_weaker}
 use Rattle.bdb_base.proofs.UserLemmas.{comes_back, name_found, named_at, next_is_no_user, others_are_users, plain_at, states_name_others, user_above, user_or_new, user_within, who_is_gone_is_no_user, who_leaves_is_gone}
+use Rattle.bdb_base.proofs.CauseLemmas.{rises_twice_and_once}
 use Rattle.bdb_keep.specs.Seen.{Seen}
 use Rattle.bdb_keep.specs.Tables.{Tables}
 use Rattle.bdb_key.specs.Grammar.{IsNum, IsPlain}
@@ -68,15 +69,12 @@ not_end [] x (suc n) h = refl
 not_end (y ∷ xs) x zero h = refl
 not_end (y ∷ xs) x (suc n) h = not_end xs x n (λ e. h (ap suc e))
 
-pub same_number : (a b : ℕ) → is_eq (nat_cmp a b) ≡ nat_eq a b
-same_number a b = grind (arith, nat_tests)
-
 -- the places without the last one
 slots_without_last : (users : List UserSlot) (slot : UserSlot) (uid k : ℕ) → uid ≡ suc (length users) → cond (is_eq (nat_cmp k uid)) None (slot_of (users ++ slot ∷ []) k) ≡ slot_of users k
 slots_without_last users slot uid k s = elim (cases_Bool (nat_eq k uid)) [
-  | inl e ↦ cond-true (is_eq (nat_cmp k uid)) None (slot_of (users ++ slot ∷ []) k) (same_number k uid ∙ e)
+  | inl e ↦ cond-true (is_eq (nat_cmp k uid)) None (slot_of (users ++ slot ∷ []) k) (is_eq_nat_cmp k uid ∙ e)
       ∙ sym (ap (slot_of users) (eqb-true k uid e ∙ s) ∙ slice_get_past users (length users) (omega arith))
-  | inr e ↦ cond-false (is_eq (nat_cmp k uid)) None (slot_of (users ++ slot ∷ []) k) (same_number k uid ∙ e) ∙ old k (λ z. false≢true (sym e ∙ eq-eqb k uid (z ∙ sym s)))
+  | inr e ↦ cond-false (is_eq (nat_cmp k uid)) None (slot_of (users ++ slot ∷ []) k) (is_eq_nat_cmp k uid ∙ e) ∙ old k (λ z. false≢true (sym e ∙ eq-eqb k uid (z ∙ sym s)))
 ]
   where
     old : (k : ℕ) → (k ≡ suc (length users) → ⊥) → slot_of (users ++ slot ∷ []) k ≡ slot_of users k
@@ -166,10 +164,6 @@ place_keeps t m u uid put drops outside name a last h =
     let more = is_user (a.catalog.users ++ Live name ∷ []) in
     same_by_user t m u uid None more (without_one_user more uid) h.stored.names put outside h.stored.stored.states (without_last t m u uid put drops name a last h)
 
-longer : {X : Type 0} (xs : List X) (x : X) → length (xs ++ x ∷ []) ≡ length xs + 1
-longer [] x = refl
-longer (y ∷ xs) x = let h = longer xs x in omega (arith, h)
-
 -- the next number is above that of the last user
 pub some_next : (t : Tables) (next : ℕ) → IsNextUser t next → SomeUserIsLast t → 1 ≤ next
 some_next t next is s = let e = is (base_named (UserAdded s.name) s.some.base) s.some.may.stored in omega (arith, e)
@@ -177,14 +171,14 @@ some_next t next is s = let e = is (base_named (UserAdded s.name) s.some.base) s
 pub last_user_lost : (t m u : Tables) (next : ℕ) → m ≡ t → IsNextUser t next → LosesPlace m u (next - 1) → LosesLastUser t u
 last_user_lost t m u next same is loses name a h =
     let e = is (base_named (UserAdded name) a) h.stored in
-    let l = longer a.catalog.users (Live name) in
+    let l = length_push a.catalog.users (Live name) in
     loses name a (omega (arith, e, l)) (subst (λ (z : Tables). MayLoseName z (UserAdded name) a) (sym same) h)
 
 pub last_user_keeps : (t m u : Tables) (next : ℕ) → m ≡ t → IsNextUser t next → PlaceKeeps m u (next - 1) → SomeUserIsLast t → SameNumbers t u
 last_user_keeps t m u next same is keeps s =
     let a = s.some.base in
     let e = is (base_named (UserAdded s.name) a) s.some.may.stored in
-    let l = longer a.catalog.users (Live s.name) in
+    let l = length_push a.catalog.users (Live s.name) in
     subst (λ (z : Tables). SameNumbers z u) same
     (keeps s.name a (omega (arith, e, l)) (subst (λ (z : Tables). MayLoseName z (UserAdded s.name) a) (sym same) s.some.may))
 
@@ -275,9 +269,6 @@ leave_written old new uid writes name a h = writes a (may_lose old.kept uid name
 
 -- ---- how often is written
 
-place_and_edges : (n k a b c : ℕ) → b ≤ c → n ≡ k → RoseBy 1 a b → Rises (2 * n) b c → Rises (2 * k + 1) a c
-place_and_edges n k a b c le same one edges below = let e = edges below in omega arith
-
 pub place_written : (old mid new : Seen) (uid : ℕ) → mid.kept ≡ tables.remove old.kept (place user_codec uid) → mid.writes ≤ new.writes → RoseBy 1 old.writes mid.writes
     → WritesDropped mid new uid → WritesPlace old new uid
 place_written old mid new uid put le one edges name a last h =
@@ -285,14 +276,14 @@ place_written old mid new uid put le one edges name a last h =
     let more = users ++ Live name ∷ [] in
     let s = h.stored in
     let none = none_names a.catalog a.stmts uid h.between.before (next_is_no_user users uid last) in
-    place_and_edges (length s.names.used) (world_count a.stmts) old.writes mid.writes new.writes le (numbers_are_counted s.names s.stored.states.names a.stmts s.stored.worlds) one
+    rises_twice_and_once (length s.names.used) (world_count a.stmts) old.writes mid.writes new.writes le (numbers_are_counted s.names s.stored.states.names a.stmts s.stored.worlds) one
     (edges (record { users = is_user more; names = s.names }) (states_before old.kept mid.kept uid None put (is_user more) s.names s.stored.states)
     (record { user = last_is_user users name uid last; unnamed = λ w e. listed_is_named uid w ∙ none w (sym (s.stored.worlds w) ∙ e) }))
 
 pub last_user_written : (old mid new : Seen) (next : ℕ) → mid.kept ≡ old.kept → mid.writes ≡ old.writes → IsNextUser old.kept next → WritesPlace mid new (next - 1) → WritesLastUser old new
 last_user_written old mid new next same still is writes name a h =
     let e = is (base_named (UserAdded name) a) h.stored in
-    let l = longer a.catalog.users (Live name) in
+    let l = length_push a.catalog.users (Live name) in
     subst (λ (n : ℕ). Rises (2 * world_count a.stmts + 1) n new.writes) still
     (writes name a (omega (arith, e, l)) (subst (λ (z : Tables). MayLoseName z (UserAdded name) a) (sym same) h))
 
@@ -303,6 +294,6 @@ back_written old mid new uid name put le one edges a h =
     let user = (name_found k.users uid name h.between.can).0 in
     let left = (without_user k uid).users in
     let s = h.stored in
-    place_and_edges (length s.names.used) (world_count a.stmts) old.writes mid.writes new.writes le (numbers_are_counted s.names s.stored.states.names a.stmts s.stored.worlds) one
+    rises_twice_and_once (length s.names.used) (world_count a.stmts) old.writes mid.writes new.writes le (numbers_are_counted s.names s.stored.states.names a.stmts s.stored.worlds) one
     (edges (record { users = is_user left; names = s.names }) (states_before old.kept mid.kept uid (Some (Live name)) put (is_user left) s.names s.stored.states)
     (who_is_gone_is_no_user left uid (who_leaves_is_gone k uid user)))

@@ -5,10 +5,12 @@ use Rattle.std.specs.Ordering.{is_eq, nat_cmp}
 use Rattle.std.specs.FinMap as tables
 use Rattle.std.proofs.lemmas.Bool.{cases_Bool, cond-false, cond-true, eq-eqb, eqb-true, false≢true}
 use Rattle.std.proofs.lemmas.Option.{slice_get_past}
+use Rattle.std.proofs.lemmas.List.{length_push}
 use Rattle.bdb_base.specs.Bases.{belongs, key_lengths}
 use Rattle.bdb_base.specs.declared.kinds.Catalog.{Catalog}
 use Rattle.bdb_base.specs.declared.kinds.RelDef.{RelDef}
 use Rattle.bdb_base.specs.declared.kinds.Stmt.{Stmt}
+use Rattle.bdb_base.specs.OrderLemmas.{is_eq_nat_cmp}
 use Rattle.bdb_keep.specs.Tables.{Tables}
 use Rattle.bdb_key.specs.Grammar.{IsNum}
 use Rattle.bdb_tables.specs.Codec.{place}
@@ -25,7 +27,7 @@ use Rattle.bdb_update.proofs.LengthLemmas.{row_stays}
 use Rattle.bdb_return.specs.Naming.{LosesLastRelation, MayLoseName, SomeRelationIsLast, base_named}
 use Rattle.bdb_return.specs.Numbers.{IsNextRelation}
 use Rattle.bdb_return.specs.Places.{LosesRelation}
-use Rattle.bdb_return.proofs.PlaceLemmas.{not_end, same_number}
+use Rattle.bdb_return.proofs.PlaceLemmas.{not_end}
 
 -- ---- the rows of a base
 
@@ -42,9 +44,9 @@ rows_left c def stmts path ts t all h rows =
 
 rels_without_last : (rels : List RelDef) (def : RelDef) (rel k : ℕ) → rel ≡ length rels → cond (is_eq (nat_cmp k rel)) None (slice_get (rels ++ def ∷ []) k) ≡ slice_get rels k
 rels_without_last rels def rel k s = elim (cases_Bool (nat_eq k rel)) [
-  | inl e ↦ cond-true (is_eq (nat_cmp k rel)) None (slice_get (rels ++ def ∷ []) k) (same_number k rel ∙ e)
+  | inl e ↦ cond-true (is_eq (nat_cmp k rel)) None (slice_get (rels ++ def ∷ []) k) (is_eq_nat_cmp k rel ∙ e)
       ∙ sym (ap (slice_get rels) (eqb-true k rel e ∙ s) ∙ slice_get_past rels (length rels) (omega arith))
-  | inr e ↦ cond-false (is_eq (nat_cmp k rel)) None (slice_get (rels ++ def ∷ []) k) (same_number k rel ∙ e) ∙ not_end rels def k (λ z. false≢true (sym e ∙ eq-eqb k rel (z ∙ sym s)))
+  | inr e ↦ cond-false (is_eq (nat_cmp k rel)) None (slice_get (rels ++ def ∷ []) k) (is_eq_nat_cmp k rel ∙ e) ∙ not_end rels def k (λ z. false≢true (sym e ∙ eq-eqb k rel (z ∙ sym s)))
 ]
 
 relation_less : (t : Tables) (rels : List RelDef) (rel : ℕ) (def : RelDef) → rel ≡ length rels → IsNum rel → Gives rel_codec t (slice_get (rels ++ def ∷ []))
@@ -78,19 +80,15 @@ relation_lost t u rel num put def a last g =
       };
     })
 
-longer : {X : Type 0} (xs : List X) (x : X) → length (xs ++ x ∷ []) ≡ length xs + 1
-longer [] x = refl
-longer (y ∷ xs) x = let h = longer xs x in omega (arith, h)
-
 -- the next number is above that of the last relation
 pub some_next : (t : Tables) (next : ℕ) → IsNextRelation t next → SomeRelationIsLast t → 1 ≤ next
 some_next t next is s =
     let e = is (base_named (RelationAdded s.def) s.some.base) s.some.may.stored in
-    let l = longer s.some.base.catalog.rels s.def in
+    let l = length_push s.some.base.catalog.rels s.def in
     omega (arith, e, l)
 
 pub last_relation_lost : (t m u : Tables) (next : ℕ) → m ≡ t → IsNextRelation t next → IsNum (next - 1) → u ≡ tables.remove m (place rel_codec (next - 1)) → LosesLastRelation t u
 last_relation_lost t m u next same is num put def a h =
     let e = is (base_named (RelationAdded def) a) h.stored in
-    let l = longer a.catalog.rels def in
+    let l = length_push a.catalog.rels def in
     relation_lost m u (next - 1) num put def a (omega (arith, e, l)) (subst (λ (z : Tables). MayLoseName z (RelationAdded def) a) (sym same) h)

@@ -1,9 +1,10 @@
 -- Batches: where they break off, how their lines are run, and how their transaction ends.
 use Rattle.std.proofs.Common.{◌≡◌, ◌∙◌, ℕ, ◌+◌, ◌-◌, ◌<◌, ◌≤◌, suc, Bool, true, false, not, ◌&&◌, List, [], ◌∷◌, ◌++◌, length, take, drop, get_or, Result, Ok, Err, IfOk, MatchBool, refl, sym, ap, subst, inl, inr, arith}
-use Rattle.std.proofs.lemmas.Bool.{cases_Bool, and_parts, cond-true, cond-false, false≢true, MatchBool-at_true, MatchBool-at_false}
+use Rattle.std.proofs.lemmas.Bool.{cases_Bool, and_parts, cond-true, cond-false, false≢true, MatchBool-at_true, MatchBool-at_false, and_from}
 use Rattle.std.proofs.lemmas.List.{append-nil, append_assoc, take_rest}
 use Rattle.std.proofs.lemmas.Grind.{get_or_head}
 use Rattle.bdb_base.specs.Causes.{HasCause, Rises}
+use Rattle.bdb_base.proofs.CauseLemmas.{rises_once}
 use Rattle.bdb_keep.specs.Calls.{IsBegin}
 use Rattle.bdb_keep.specs.Seen.{Seen, IsStill, IsDropped, NeverFall, Unchanged}
 use Rattle.bdb_tables.proofs.Loops.{counts_then}
@@ -22,8 +23,9 @@ use Rattle.bdb_session.specs.declared.event.Event.TheVariants.{Piece}
 use Rattle.bdb_session.specs.declared.reply.Reply.{Reply}
 use Rattle.bdb_session.specs.declared.stop.StopError.{StopError}
 use Rattle.bdb_session.specs.declared.stop.StopError.TheVariants.{Fault}
-use Rattle.bdb_session.proofs.ServedLemmas.{still_agrees}
-use Rattle.bdb_session.proofs.WithinLemmas.{cause_later, dropped_is_still, dropped_is_unchanged, rises_once}
+use Rattle.bdb_session.proofs.ServedLemmas.{still_agrees, ends_well}
+use Rattle.bdb_session.proofs.WithinLemmas.{cause_later, dropped_is_still, dropped_is_unchanged}
+use Rattle.bdb_session.proofs.BatchLists.{negated, negated_false}
 
 -- ---- where a batch breaks off
 
@@ -66,9 +68,6 @@ at_once s e es no_more h = record {
   commits = cond-false (accepts_all s (e ∷ es)) 1 0 h;
 }
 
-both_true : (a b : Bool) → a ≡ true → b ≡ true → (a && b) ≡ true
-both_true a b e f = ap (λ (x : Bool). x && b) e ∙ f
-
 -- it is accepted, and a later one is refused
 later_on : (s : State) (e : Event) (es : List Event) → accepts s e ≡ true → accepts_all s (e ∷ es) ≡ false → BreaksOff (next_state s e) es → BreaksOff s (e ∷ es)
 later_on s e es more h r = record {
@@ -76,7 +75,7 @@ later_on s e es more h r = record {
   refused = r.refused;
   rest = r.rest;
   are = ap (λ (xs : List Event). e ∷ xs) r.are;
-  are_accepted = both_true (accepts s e) (accepts_all (next_state s e) r.front) more r.are_accepted;
+  are_accepted = and_from (accepts s e) (accepts_all (next_state s e) r.front) more r.are_accepted;
   is_refused = r.is_refused;
   text = ap (λ (xs : List Event). reply_of s e ++ replies (next_state s e) xs) (cond-true (accepts s e) (up_to_refused (next_state s e) es) [] more)
       ∙ ap (λ (x : List ℕ). reply_of s e ++ x) r.text;
@@ -194,14 +193,6 @@ pub unbegun_batch : (es : List Event) (k : Known) (old new : Seen) (stop : StopE
 unbegun_batch es k old new stop still b =
     stop_batch es k k old new stop refl still b.err b.counts (cause_later {T = Unit {0}} {U = BatchReply} old.faults old.faults new.faults stop (omega arith) b.cause)
 
-negated : (b c : Bool) → b ≡ not c → b ≡ false → c ≡ true
-negated b true e f = refl
-negated b false e f = absurd (false≢true (sym f ∙ e))
-
-negated_false : (b c : Bool) → b ≡ not c → b ≡ true → c ≡ false
-negated_false b true e f = absurd (false≢true (sym e ∙ f))
-negated_false b false e f = refl
-
 module _ (es : List Event) (before learns : Known) (old run mid new : Seen) (still : IsStill old) (began : IsBegin {T = Unit {0}} {E = StopError} old run (Ok tt) Fault) where
   begun : (s : State) → Agrees old.kept before s → Agrees run.kept before s
   begun s a = still_agrees old.kept run.kept before s began.kept a
@@ -233,13 +224,7 @@ module _ (es : List Event) (before learns : Known) (old run mid new : Seen) (sti
                 alone = λ f. absurd (false≢true (sym f ∙ all));
                 known = λ f. absurd (false≢true (sym f ∙ all));
               };
-          ends = record {
-            same = tt;
-            still = record { stopped = c.stopped; rest = c.kept ∙ sym c.last };
-            never_fall = fall;
-            cause = record { later = fall.faults; rose = λ e. absurd cc };
-            err = tt;
-          };
+          ends = ends_well before now old new q (record { stopped = c.stopped; rest = c.kept ∙ sym c.last }) fall;
         }
     kept_batch now (Err stop) done k =
         let c = k.commit in
@@ -270,13 +255,7 @@ module _ (es : List Event) (before learns : Known) (old run mid new : Seen) (sti
                 alone = λ _. unchanged;
                 known = λ _. k.same;
               };
-          ends = record {
-            same = tt;
-            still = record { stopped = d.stopped; rest = d.undone ∙ sym d.last };
-            never_fall = fall;
-            cause = record { later = fall.faults; rose = λ e. absurd cc };
-            err = tt;
-          };
+          ends = ends_well before now old new told (record { stopped = d.stopped; rest = d.undone ∙ sym d.last }) fall;
         } in
         subst (λ (x : Result BatchReply StopError). ServesBatch es before now old new x) (sym k.reply) ended
 

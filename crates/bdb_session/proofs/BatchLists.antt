@@ -1,9 +1,11 @@
 -- What a batch leaves of the bases to which undo and redo lead.
 use Rattle.std.proofs.Common.{◌≡◌, ◌∙◌, ℕ, suc, arith, take, Bool, true, false, not, ◌&&◌, ◌||◌, nat_lt, List, [], ◌∷◌, length, Option, None, Some, Result, Ok, Err, OnOk, refl, sym, ap, subst, inl, inr}
 use Rattle.std.proofs.lemmas.Bool.Decides.{nat_tests}
-use Rattle.std.proofs.lemmas.Bool.{and_parts, cases_Bool, cond-true, cond-false, false≢true, MatchBool-at_true, MatchBool-at_false}
+use Rattle.std.proofs.lemmas.Bool.{and_parts, cases_Bool, cond-true, cond-false, false≢true, MatchBool-at_true, MatchBool-at_false, or_parts, or_right, and_from, and_left}
 use Rattle.bdb_base.specs.Bases.{Contents}
 use Rattle.bdb_base.specs.declared.kinds.Catalog.{Catalog}
+use Rattle.bdb_base.proofs.ListLemmas.{or_false}
+use Rattle.bdb_base.proofs.BoolLemmas.{or_assoc}
 use Rattle.bdb_canon.specs.declared.sizes.Counts.{Counts}
 use Rattle.bdb_keep.specs.Calls.{IsBegin}
 use Rattle.bdb_keep.specs.Seen.{GoesOn, Seen, IsStill}
@@ -16,7 +18,7 @@ use Rattle.bdb_undo.specs.declared.change.Change.{Change}
 use Rattle.bdb_undo.proofs.ChangeLemmas.{same_base_alters_nothing}
 use Rattle.bdb_undo.proofs.SameLemmas.{same_contents_are_one, contents_are_their_own}
 use Rattle.bdb_undo.proofs.TimelineLemmas.{nothing_kept_starts}
-use Rattle.bdb_session.specs.Batches.{Alters, AlterSome, AreRun, ServesBatch, SettlesBatch, alters_some, batch_timeline, is_altered, left_by, pieces, taken_over, without_changes}
+use Rattle.bdb_session.specs.Batches.{Alters, AlterSome, AreRun, ServesBatch, ClosesBatch, alters_some, batch_timeline, is_altered, left_by, pieces, taken_over, without_changes}
 use Rattle.bdb_session.specs.Known.{Known, Agrees, AgreesOnSome, Remembers, RemembersSome}
 use Rattle.bdb_session.specs.Machine.{accepts, next_state}
 use Rattle.bdb_session.specs.Outcome.{State, Outcome, start_from, state_after}
@@ -54,16 +56,12 @@ not_false : (b : Bool) → not b ≡ false → b ≡ true
 not_false true e = refl
 not_false false e = absurd (false≢true (sym e))
 
-or_false : (a b : Bool) → (a || b) ≡ false → (a ≡ false) × (b ≡ false)
-or_false true b e = absurd (false≢true (sym e))
-or_false false b e = (refl, e)
-
 -- where no event alters the base, it stays
 pub unaltered_stays : (s : State) (es : List Event) → alters_some s es ≡ false → (after s es).base ≡ s.base
 unaltered_stays s [] e = refl
 unaltered_stays s (x ∷ es) e =
     let next = next_state s x in
-    let p = or_false (not (same_contents s.base next.base)) (alters_some next es) e in
+    let p = or_parts (not (same_contents s.base next.base)) (alters_some next es) e in
     unaltered_stays next es p.1 ∙ sym (same_contents_are_one s.base next.base (not_false (same_contents s.base next.base) p.0))
 
 -- ---- how lines alter it
@@ -72,19 +70,11 @@ unaltered_stays s (x ∷ es) e =
 pub same_alters : (a b : Contents) → b ≡ a → not (same_contents a b) ≡ false
 same_alters a b e = ap (λ (c : Contents). not (same_contents a c)) e ∙ ap not (contents_are_their_own a)
 
-or_none : (b : Bool) → (b || false) ≡ b
-or_none true = refl
-or_none false = refl
-
-or_regroup : (a b c : Bool) → ((a || b) || c) ≡ (a || (b || c))
-or_regroup true b c = refl
-or_regroup false b c = refl
-
 -- where nothing is learned, nothing is altered
 pub nothing_alters : {T : Type 0} (outcome : State → Outcome) (k : Known) (old : Seen) (result : Result T StopError)
     → ((s : State) → Agrees old.kept k s → (state_after s (outcome s)).base ≡ s.base) → Alters outcome k k old result
 nothing_alters outcome k old (Ok x) stays = λ s a.
-    sym (ap (λ (b : Bool). is_altered k || b) (same_alters s.base (state_after s (outcome s)).base (stays s a)) ∙ or_none (is_altered k))
+    sym (ap (λ (b : Bool). is_altered k || b) (same_alters s.base (state_after s (outcome s)).base (stays s a)) ∙ or_false (is_altered k))
 nothing_alters outcome k old (Err stop) stays = λ s a. tt
 
 pub alters_where : {T : Type 0} (outcome known : State → Outcome) (was now : Known) (old : Seen) (result : Result T StopError)
@@ -98,7 +88,7 @@ abbrev LinesAlter : List (List ℕ) → Known → Known → Seen → Type 0
 LinesAlter lines was now old = (s : State) → Agrees old.kept was s → accepts_all s (pieces lines) ≡ true → is_altered now ≡ (is_altered was || alters_some s (pieces lines))
 
 pub no_lines_alter : (lines : List (List ℕ)) (k : Known) (old : Seen) → lines ≡ [] → LinesAlter lines k k old
-no_lines_alter lines k old e = subst (λ (ls : List (List ℕ)). LinesAlter ls k k old) (sym e) (λ s a all. sym (or_none (is_altered k)))
+no_lines_alter lines k old e = subst (λ (ls : List (List ℕ)). LinesAlter ls k k old) (sym e) (λ s a all. sym (or_false (is_altered k)))
 
 -- a line, and then the others
 pub lines_alter : (lines rest : List (List ℕ)) (line : List ℕ) (was between now : Known) (old run : Seen) → lines ≡ line ∷ rest
@@ -110,7 +100,7 @@ lines_alter lines rest line was between now old run e next one others =
     let then = next_state s (Piece line) in
     let p = and_parts (accepts s (Piece line)) (accepts_all then (pieces rest)) all in
     others then (next s a) p.1 ∙ ap (λ b. b || alters_some then (pieces rest)) (one s a)
-    ∙ or_regroup (is_altered was) (not (same_contents s.base then.base)) (alters_some then (pieces rest)))
+    ∙ or_assoc (is_altered was) (not (same_contents s.base then.base)) (alters_some then (pieces rest)))
 
 -- a line that is refused
 pub stop_alters : (lines rest : List (List ℕ)) (line : List ℕ) (accepted : Bool) (was now : Known) (old : Seen) → lines ≡ line ∷ rest → accepted ≡ false
@@ -121,10 +111,6 @@ stop_alters lines rest line accepted was now old e no_more told =
     absurd (false≢true (sym no_more ∙ told s a ∙ p.0)))
 
 -- ---- what is learned of a step
-
-or_true : (a b : Bool) → b ≡ true → (a || b) ≡ true
-or_true true b e = refl
-or_true false b e = e
 
 -- a history with a change noted has some
 positive : (n : ℕ) → nat_lt 0 (suc n) ≡ true
@@ -144,8 +130,8 @@ altered_bases c a b h e = elim (cases_Bool (same_contents a b)) [
 
 learned_by : (change : Option Change) (k : Known) (catalog : Catalog) (counts : Counts) (a b : Contents) → LeadsBy change a b
     → is_altered (record { catalog = catalog; counts = counts; history = noted_by change k.history }) ≡ (is_altered k || not (same_contents a b))
-learned_by None k catalog counts a b h = sym (ap (λ (x : Bool). is_altered k || x) (same_alters a b h) ∙ or_none (is_altered k))
-learned_by (Some c) k catalog counts a b h = noted_some c k.history ∙ sym (or_true (is_altered k) (not (same_contents a b)) (altered_bases c a b h.0 h.1))
+learned_by None k catalog counts a b h = sym (ap (λ (x : Bool). is_altered k || x) (same_alters a b h) ∙ or_false (is_altered k))
+learned_by (Some c) k catalog counts a b h = noted_some c k.history ∙ sym (or_right (is_altered k) (not (same_contents a b)) (altered_bases c a b h.0 h.1))
 
 -- what a session learned altered the base exactly where it is another one
 pub learned_alters : (k : Known) (news : News) (a b : Contents) → LeadsBy news.change a b → is_altered (learned k news) ≡ (is_altered k || not (same_contents a b))
@@ -153,19 +139,13 @@ learned_alters k news a b h = learned_by news.change k (catalog_by k.catalog new
 
 -- ---- how the transaction of a batch ends
 
-negated : (b c : Bool) → b ≡ not c → b ≡ false → c ≡ true
+pub negated : (b c : Bool) → b ≡ not c → b ≡ false → c ≡ true
 negated b true e f = refl
 negated b false e f = absurd (false≢true (sym f ∙ e))
 
-negated_false : (b c : Bool) → b ≡ not c → b ≡ true → c ≡ false
+pub negated_false : (b c : Bool) → b ≡ not c → b ≡ true → c ≡ false
 negated_false b true e f = absurd (false≢true (sym e ∙ f))
 negated_false b false e f = refl
-
-both : (a b : Bool) → a ≡ true → b ≡ true → (a && b) ≡ true
-both a b e f = ap (λ (x : Bool). x && b) e ∙ f
-
-first_false : (a b : Bool) → a ≡ false → (a && b) ≡ false
-first_false a b e = ap (λ (x : Bool). x && b) e
 
 second_false : (a b : Bool) → a ≡ true → b ≡ false → (a && b) ≡ false
 second_false a b e f = ap (λ (x : Bool). x && b) e ∙ f
@@ -177,7 +157,7 @@ module _ (t : Timeline) (es : List Event) (all : accepts_all (start_from t.now) 
 
   altered_timeline : alters_some (start_from t.now) es ≡ true → batch_timeline t es ≡ started last.base
   altered_timeline e = cond-true (accepts_all (start_from t.now) es && alters_some (start_from t.now) es) (started last.base) t
-      (both (accepts_all (start_from t.now) es) (alters_some (start_from t.now) es) all e)
+      (and_from (accepts_all (start_from t.now) es) (alters_some (start_from t.now) es) all e)
 
   same_timeline : alters_some (start_from t.now) es ≡ false → batch_timeline t es ≡ t
   same_timeline e = cond-false (accepts_all (start_from t.now) es && alters_some (start_from t.now) es) (started last.base) t
@@ -222,11 +202,11 @@ module _ (es : List Event) (before copy : Known) (old run mid new : Seen) (began
       let h = ran s (begun s r.agrees) in
       let some = negated_false told.refused (accepts_all s es) h.refused_is refused in
       subst (λ (x : Timeline). Remembers new.kept now x)
-      (sym (cond-false (accepts_all s es && alters_some s es) (started (after s es).base) t (first_false (accepts_all s es) (alters_some s es) some)))
+      (sym (cond-false (accepts_all s es && alters_some s es) (started (after s es).base) t (and_left (accepts_all s es) (alters_some s es) some)))
       (subst (λ (j : Known). Remembers new.kept j t) (sym k.same) (still_remembers old.kept new.kept before t (undone refused) r))
   undone_lists now (Err stop) refused k = λ t r. tt
 
-  pub batch_lists : (now : Known) (result : Result BatchReply StopError) → SettlesBatch copy told before now mid new result
+  pub batch_lists : (now : Known) (result : Result BatchReply StopError) → ClosesBatch copy told before now mid new result
       → (t : Timeline) → Remembers old.kept before t → OnOk result (Remembers new.kept now (batch_timeline t es))
   batch_lists now result h = elim (cases_Bool told.refused) [
     | inl refused ↦ undone_lists now result refused
@@ -244,7 +224,7 @@ copy_altered {T} es k copy now run x same h =
 
 -- where the batch was refused, its transaction was undone
 pub undone_kept : (before copy : Known) (old run mid new : Seen) (told : BatchReply) → IsStill old → IsBegin {T = Unit {0}} {E = StopError} old run (Ok tt) Fault → GoesOn run mid
-    → (now : Known) (result : Result BatchReply StopError) → SettlesBatch copy told before now mid new result → told.refused ≡ true → new.kept ≡ old.kept
+    → (now : Known) (result : Result BatchReply StopError) → ClosesBatch copy told before now mid new result → told.refused ≡ true → new.kept ≡ old.kept
 undone_kept before copy old run mid new told still began goes now result h refused =
     let k = MatchBool-at_true (IsUndone told before now mid new result) (IsKept (taken_over before copy) told before now mid new result) refused h in
     k.undo.dropped.undone ∙ goes.last ∙ began.last ∙ sym still.rest

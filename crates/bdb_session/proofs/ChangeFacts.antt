@@ -1,6 +1,5 @@
 -- What changes of statements in tables leave of what a session agrees on with them, and which limits they can pass.
-use Rattle.std.proofs.Common.{◌≡◌, ◌∙◌, ℕ, true, false, List, length, Result, Err, refl, sym, subst, ltb, leb, arith}
-use Rattle.std.proofs.lemmas.Bool.Decides.{nat_tests}
+use Rattle.std.proofs.Common.{◌≡◌, ◌∙◌, List, length, Result, Err, refl, sym, subst}
 use Rattle.bdb_base.specs.Bases.{Contents, IsValid}
 use Rattle.bdb_base.specs.Causes.{Rose}
 use Rattle.bdb_base.specs.Limits.{most_users, most_relations}
@@ -20,15 +19,13 @@ use Rattle.bdb_session.specs.Outcome.{State, Outcome}
 use Rattle.bdb_session.specs.Sizes.{passed_limit}
 use Rattle.bdb_session.specs.Within.{TellsWithin, IsStopped, sized}
 use Rattle.bdb_session.proofs.WithinLemmas.{stop_tells}
-
-not_above : (m n : ℕ) → leb n m ≡ true → ltb m n ≡ false
-not_above m n h = grind (arith, nat_tests)
+use Rattle.bdb_session.proofs.LimitLemmas.{above_false}
 
 -- with other statements a valid base passes no limit but of sizes
 pub size_limit : (b : Contents) (xs : List Stmt) → IsValid b.catalog b.stmts → passed_limit (with_stmts b xs) ≡ size_passed (counts_of (with_stmts b xs))
 size_limit b xs valid =
-    let users = not_above most_users (length b.catalog.users) valid.catalog.few_users in
-    let rels = not_above most_relations (length b.catalog.rels) valid.catalog.few_rels in
+    let users = above_false most_users (length b.catalog.users) valid.catalog.few_users in
+    let rels = above_false most_relations (length b.catalog.rels) valid.catalog.few_rels in
     rw (users, rels) refl
 
 -- where nothing was written, a session agrees with the tables as before

@@ -1,24 +1,15 @@
 -- How a transaction ends: it isn't begun, a step within it is refused, it isn't committed, or it is.
-use Rattle.std.proofs.Common.{◌≡◌, ◌∙◌, ℕ, ◌≤◌, Ok, Err, sym, ap, arith}
-use Rattle.bdb_base.specs.Causes.{Rose}
+use Rattle.std.proofs.Common.{◌≡◌, ◌∙◌, Ok, Err, sym, ap, arith}
+use Rattle.bdb_base.proofs.CauseLemmas.{rose_later}
 use Rattle.bdb_keep.specs.Calls.{IsBegin, IsCommit}
-use Rattle.bdb_keep.specs.Seen.{Seen, IsStill, NeverFall, IsDropped, Unchanged, Steps}
+use Rattle.bdb_keep.specs.Seen.{Seen, IsStill, NeverFall, IsDropped, Steps}
 use Rattle.bdb_tables.proofs.Loops.{counts_then}
 use Rattle.bdb_tables.specs.declared.tab.TabError.{TabError}
 use Rattle.bdb_tables.specs.declared.tab.TabError.TheVariants as tab
 use Rattle.bdb_session.specs.declared.stop.StopError.{StopError}
 use Rattle.bdb_session.specs.declared.stop.StopError.TheVariants.{Fault}
 use Rattle.bdb_session.specs.Committing.{IsCommitted}
-
-rose_later : (a b c : ℕ) → a ≤ b → Rose b c → Rose a c
-rose_later a b c le r = omega arith
-
--- what is dropped is as it was where nothing ran
-dropped_is_still : (old new : Seen) → IsDropped old new → IsStill new
-dropped_is_still old new d = record { stopped = d.stopped; rest = d.undone ∙ sym d.last }
-
-dropped_is_unchanged : (old new : Seen) → IsStill old → IsDropped old new → Unchanged old new
-dropped_is_unchanged old new still d = record { kept = d.undone ∙ sym still.rest; last = d.last; commits = d.commits }
+use Rattle.bdb_session.proofs.WithinLemmas.{dropped_is_unchanged, dropped_is_still}
 
 pub not_begun : {T : Type 0} (old new : Seen) (stop : StopError) → IsStill old → IsBegin {T = T} old new (Err stop) Fault → IsCommitted {T = T} old new (Err stop) Fault
 not_begun old new stop still b = record {

@@ -11,21 +11,21 @@ use Rattle.bdb_session.specs.Known.{Known, Agrees}
 use Rattle.bdb_session.specs.Outcome.{State}
 use Rattle.bdb_session.specs.QueryReads.{ReadsAsBounded}
 use Rattle.bdb_session.specs.Telling.{ReadsWithin, WritesNothing, world_reads, why_reads}
-use Rattle.bdb_session.specs.Within.{IsKept, IsUndone, Settles}
+use Rattle.bdb_session.specs.Within.{IsKept, IsUndone, Closes}
 use Rattle.bdb_session.specs.declared.reply.Reply.{Reply}
 use Rattle.bdb_session.specs.declared.stop.StopError.{StopError}
 use Rattle.bdb_session.specs.declared.stop.StopError.TheVariants.{Fault}
 use Rattle.bdb_session.proofs.ServedLemmas.{still_agrees}
-use Rattle.bdb_session.proofs.StepLemmas.{delete_settles, leave_settles, update_settles}
+use Rattle.bdb_session.proofs.StepLemmas.{delete_closes, leave_closes, update_closes}
 use Rattle.bdb_session.proofs.TellLemmas.{always_ok}
-use Rattle.bdb_session.proofs.WriteLemmas.{insert_settles, settled_unwritten}
+use Rattle.bdb_session.proofs.WriteLemmas.{insert_closes, closed_unwritten}
 use Rattle.bdb_trans.specs.Bounds.{product_of}
-use Rattle.bdb_worlds.specs.Bounds.{RisesWithin}
+use Rattle.bdb_worlds.specs.Bounds.{EndsWithin}
 
--- ---- a transaction that was begun and settled
+-- ---- a transaction that was begun and closed
 
 module _ (learns : Known) (r : Reply) (before now : Known) (old run mid new : Seen) (began : IsBegin {T = Unit {0}} {E = StopError} old run (Ok tt) Fault) (last : mid.last ≡ run.last)
-    (result : Result Reply StopError) (ended : Settles learns r before now mid new result) where
+    (result : Result Reply StopError) (ended : Closes learns r before now mid new result) where
   begun : (s : State) → Agrees old.kept before s → Agrees run.kept before s
   begun s a = still_agrees old.kept run.kept before s began.kept a
 
@@ -36,13 +36,13 @@ module _ (learns : Known) (r : Reply) (before now : Known) (old run mid new : Se
     | inr undone ↦ (MatchBool-at_false (IsKept learns r before now mid new result) (IsUndone r before now mid new result) undone ended).undo.reads
   ]
 
-  read_settles : (most : State → ℕ) → ReadsWithin most before run mid (Ok r) → ReadsWithin most before old new result
-  read_settles most h = λ s a.
-      let there = subst (λ n. RisesWithin (most s) run.reads n) (sym same_reads) (h s (begun s a)) in
-      always_ok result (subst (λ n. RisesWithin (most s) n new.reads) began.reads there)
+  read_closes : (most : State → ℕ) → ReadsWithin most before run mid (Ok r) → ReadsWithin most before old new result
+  read_closes most h = λ s a.
+      let there = subst (λ n. EndsWithin (most s) run.reads n) (sym same_reads) (h s (begun s a)) in
+      always_ok result (subst (λ n. EndsWithin (most s) n new.reads) began.reads there)
 
-  query_settles : (q : Query) → ReadsAsBounded q before run mid (Ok r) → ReadsAsBounded q before old new result
-  query_settles q h = λ s rows a few.
+  query_closes : (q : Query) → ReadsAsBounded q before run mid (Ok r) → ReadsAsBounded q before old new result
+  query_closes q h = λ s rows a few.
       let most : mid.reads ≤ run.reads + product_of (length s.base.catalog.users) rows 0 q.items = h s rows (begun s a) few in
       let start = began.reads in
       let end = same_reads in
@@ -52,44 +52,44 @@ module _ (learns : Known) (r : Reply) (before now : Known) (old run mid new : Se
   kept_nothing (Ok q) k h = record { kept = k.commit.kept ∙ h.kept ∙ began.kept; writes = k.commit.writes ∙ h.writes ∙ began.writes }
   kept_nothing (Err stop) k h = record { kept = tt; writes = k.commit.writes ∙ h.writes ∙ began.writes }
 
-  nothing_settles : WritesNothing run mid (Ok r) → WritesNothing old new result
-  nothing_settles h = elim (cases_Bool r.accepted) [
+  nothing_closes : WritesNothing run mid (Ok r) → WritesNothing old new result
+  nothing_closes h = elim (cases_Bool r.accepted) [
     | inl done ↦ kept_nothing result (MatchBool-at_true (IsKept learns r before now mid new result) (IsUndone r before now mid new result) done ended) h
     | inr undone ↦
         let k = MatchBool-at_false (IsKept learns r before now mid new result) (IsUndone r before now mid new result) undone ended in
         record { kept = always_ok result (k.undo.dropped.undone ∙ last ∙ began.last ∙ sym began.rest); writes = k.undo.writes ∙ h.writes ∙ began.writes }
   ]
 
-  pub reads_settle : (b : Bound) → ReadsAsTold b before run mid (Ok r) → ReadsAsTold b before old new result
-  reads_settle (CreateUser name) h = tt
-  reads_settle (CreateRelation def) h = tt
-  reads_settle (DropUser uid) h = tt
-  reads_settle (Insert x) h = tt
-  reads_settle (Delete path sign rel conds) h = tt
-  reads_settle (Update path sign rel sets conds) h = tt
-  reads_settle (Select q) h = query_settles q h
-  reads_settle (Explain q) h = read_settles (λ s. 0) h
-  reads_settle (ShowWorld path) h = read_settles (λ s. world_reads s.base path) h
-  reads_settle (Why x) h = read_settles (λ s. why_reads s.base x) h
-  reads_settle ShowTables h = tt
-  reads_settle Undo h = tt
-  reads_settle Redo h = tt
+  pub reads_close : (b : Bound) → ReadsAsTold b before run mid (Ok r) → ReadsAsTold b before old new result
+  reads_close (CreateUser name) h = tt
+  reads_close (CreateRelation def) h = tt
+  reads_close (DropUser uid) h = tt
+  reads_close (Insert x) h = tt
+  reads_close (Delete path sign rel conds) h = tt
+  reads_close (Update path sign rel sets conds) h = tt
+  reads_close (Select q) h = query_closes q h
+  reads_close (Explain q) h = read_closes (λ s. 0) h
+  reads_close (ShowWorld path) h = read_closes (λ s. world_reads s.base path) h
+  reads_close (Why x) h = read_closes (λ s. why_reads s.base x) h
+  reads_close ShowTables h = tt
+  reads_close Undo h = tt
+  reads_close Redo h = tt
 
-  pub writes_settle : (b : Bound) → WritesAsTold b before run mid (Ok r) → WritesAsTold b before old new result
-  writes_settle (CreateUser name) h = settled_unwritten learns r before now old run mid new began h result ended
-  writes_settle (CreateRelation def) h = settled_unwritten learns r before now old run mid new began h result ended
-  writes_settle (DropUser uid) h = leave_settles learns r before now old run mid new result began uid h ended
-  writes_settle (Insert x) h =
-      insert_settles (length x.path + 2) 8 learns r before now old run mid new began h.within h.refused x refl refl h.already result ended
-  writes_settle (Delete path sign rel conds) h = delete_settles learns r before now old run mid new result began path sign rel conds h ended
-  writes_settle (Update path sign rel sets conds) h = update_settles learns r before now old run mid new result began path sign rel sets conds h last ended
-  writes_settle (Select q) h = nothing_settles h
-  writes_settle (Explain q) h = nothing_settles h
-  writes_settle (ShowWorld path) h = nothing_settles h
-  writes_settle (Why x) h = nothing_settles h
-  writes_settle ShowTables h = nothing_settles h
-  writes_settle Undo h = settled_unwritten learns r before now old run mid new began h result ended
-  writes_settle Redo h = settled_unwritten learns r before now old run mid new began h result ended
+  pub writes_close : (b : Bound) → WritesAsTold b before run mid (Ok r) → WritesAsTold b before old new result
+  writes_close (CreateUser name) h = closed_unwritten learns r before now old run mid new began h result ended
+  writes_close (CreateRelation def) h = closed_unwritten learns r before now old run mid new began h result ended
+  writes_close (DropUser uid) h = leave_closes learns r before now old run mid new result began uid h ended
+  writes_close (Insert x) h =
+      insert_closes (length x.path + 2) 8 learns r before now old run mid new began h.within h.refused x refl refl h.already result ended
+  writes_close (Delete path sign rel conds) h = delete_closes learns r before now old run mid new result began path sign rel conds h ended
+  writes_close (Update path sign rel sets conds) h = update_closes learns r before now old run mid new result began path sign rel sets conds h last ended
+  writes_close (Select q) h = nothing_closes h
+  writes_close (Explain q) h = nothing_closes h
+  writes_close (ShowWorld path) h = nothing_closes h
+  writes_close (Why x) h = nothing_closes h
+  writes_close ShowTables h = nothing_closes h
+  writes_close Undo h = closed_unwritten learns r before now old run mid new began h result ended
+  writes_close Redo h = closed_unwritten learns r before now old run mid new began h result ended
 
 -- ---- one that stopped
 

@@ -39,7 +39,7 @@ use Rattle.bdb_session.proofs.ErrorTexts.{IsFlat, is_flat_value}
 
 -- ---- names
 
-visible_is_other : (c : ℕ) → nat_le 32 c ≡ true → not (nat_eq c 10) ≡ true
+pub visible_is_other : (c : ℕ) → nat_le 32 c ≡ true → not (nat_eq c 10) ≡ true
 visible_is_other c h = grind (arith, nat_tests)
 
 pub plain_flat : (t : List ℕ) → is_plain t ≡ true → IsFlat t

@@ -22,14 +22,14 @@ use Rattle.bdb_base.specs.declared.kinds.Who.{Who}
 use Rattle.bdb_base.specs.declared.kinds.Who.TheVariants.{User, Of}
 use Rattle.bdb_base.specs.Bases.{IsCatalog, is_valid_relation}
 use Rattle.bdb_base.specs.Queries.{columns_at, columns_of_definition}
-use Rattle.bdb_base.specs.Texts.{cmp_text, dotted, joined}
+use Rattle.bdb_base.specs.Texts.{cmp_text, dotted, joined, user_text}
 use Rattle.bdb_base.specs.Safety.{first_there}
 use Rattle.bdb_base.proofs.ListLemmas.{list_all-filter, list_all_weaker}
 use Rattle.bdb_lex.specs.Spans.{lacks}
 use Rattle.bdb_plan.specs.declared.step.Step.{Step}
 use Rattle.bdb_plan.specs.declared.step.Step.TheVariants as step
 use Rattle.bdb_plan.specs.PlanOf.{all_set, bind_of, binds_from, denying, differ_from, due, item_steps, order_of, plan_of, plan_steps, setting, steps_from, walk_from, walk_of}
-use Rattle.bdb_plan.specs.PlanText.{alias_at, alias_of, column_of, operand_text, plan_text, ref_text, relation_column, step_text, take_text, user_name, who_text}
+use Rattle.bdb_plan.specs.PlanText.{alias_at, alias_of, column_of, operand_text, plan_text, ref_text, relation_column, step_text, take_text, who_text}
 use Rattle.bdb_plan.specs.Sources.{given_columns, joined as joins, pins_chain, source_of}
 use Rattle.bdb_session.proofs.ErrorBases.{found_passes, if_there, name_flat, names_flat, place_passes}
 use Rattle.bdb_session.proofs.ErrorTexts.{IsFlat, IsQuiet, flat_append, is_flat_value, is_quiet, joined_flat, quiet_from, quiet_lines, quoted_flat, value_flat}
@@ -173,7 +173,7 @@ module _ (c : Catalog) (v : IsCatalog c) (q : Query) (items : list_all has_flat_
 
   who_flat : (who : Who) → IsFlat (who_text c q who)
   unfolding who_text
-  who_flat (User uid) = quoted_flat (user_name c uid) (name_flat c v uid)
+  who_flat (User uid) = quoted_flat (user_text c uid) (name_flat c v uid)
   who_flat (Of item) = dotted_flat (alias_at q item) (codes "uid") (alias_at_flat item) refl
 
   operand_flat : (o : Operand) → is_flat_operand o ≡ true → IsFlat (operand_text c q o)

@@ -58,7 +58,7 @@ use Rattle.bdb_syntax.specs.declared.command.RawWho.{RawWho}
 use Rattle.bdb_syntax.specs.declared.command.RawWho.TheVariants as who
 use Rattle.bdb_syntax.specs.Printable.{IsFullCol, IsPrintable, IsPrintableCond, IsPrintableItem, IsPrintableQuery, IsPrintableSide, IsPrintableValue, begins_word, is_in_word, is_word}
 use Rattle.bdb_session.proofs.AllowedLemmas.{well_spelled}
-use Rattle.bdb_session.proofs.ErrorBases.{if_there}
+use Rattle.bdb_session.proofs.ErrorBases.{if_there, visible_is_other}
 use Rattle.bdb_session.proofs.ErrorPlans.{has_flat_alias, is_flat_cond, is_flat_operand}
 use Rattle.bdb_session.proofs.ErrorTexts.{IsFlat, is_flat_value}
 use Rattle.bdb_session.specs.Machine.{refusal_from}
@@ -105,12 +105,9 @@ word_flat (c ∷ cs) h =
     let m = and_parts (list_all is_in_word cs) (nat_le (length (c ∷ cs)) longest_word) k.1 in
     and_from (not (nat_eq c 10)) (lacks 10 cs) (begin_other c k.0) (list_all_weaker is_in_word (λ c. not (nat_eq c 10)) in_word_other cs m.0)
 
-visible_other : (c : ℕ) → nat_le 32 c ≡ true → not (nat_eq c 10) ≡ true
-visible_other c h = grind (arith, nat_tests)
-
 literal_flat : (v : Value) → IsPrintableValue v → is_flat_value v ≡ true
 literal_flat (Int n) h = refl
-literal_flat (Text t) h = list_all_weaker (λ c. nat_le 32 c) (λ c. not (nat_eq c 10)) visible_other t h.1
+literal_flat (Text t) h = list_all_weaker (λ c. nat_le 32 c) (λ c. not (nat_eq c 10)) visible_is_other t h.1
 
 side_flat : (rels : List RelDef) (items : List RawItem) (s : RawSide) → IsPrintableSide IsFullCol s → is_flat_operand (query_side rels items s) ≡ true
 side_flat rels items (sides.Col c) h = refl

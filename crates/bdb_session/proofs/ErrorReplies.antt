@@ -19,7 +19,7 @@ use Rattle.bdb_base.specs.declared.kinds.World.{World}
 use Rattle.bdb_base.specs.declared.tuple.Tuple.{Tuple}
 use Rattle.bdb_base.specs.Bases.{IsCatalog, is_valid_relation}
 use Rattle.bdb_base.specs.Queries.{user_numbers}
-use Rattle.bdb_base.specs.Texts.{column_text, joined, kind_text, quoted}
+use Rattle.bdb_base.specs.Texts.{column_text, joined, kind_text, quoted, user_text}
 use Rattle.bdb_base.proofs.ListLemmas.{list_all_weaker}
 use Rattle.bdb_canon.specs.declared.structure.Canon.{Canon}
 use Rattle.bdb_canon.specs.declared.structure.CanonEdge.{CanonEdge}
@@ -27,7 +27,7 @@ use Rattle.bdb_canon.specs.declared.structure.CanonRow.{CanonRow}
 use Rattle.bdb_canon.specs.declared.structure.CanonWorld.{CanonWorld}
 use Rattle.bdb_canon.specs.Canonical.{line_count}
 use Rattle.bdb_lex.specs.Spans.{lacks}
-use Rattle.bdb_render.specs.Replies.{answer_line, count_reply, held_line, mark_text, ok_reply, path_text, relation_name, row_text, rows_reply, sign_text, signed_text, step_text, tuple_text, user_name, world_reply}
+use Rattle.bdb_render.specs.Replies.{answer_line, count_reply, held_line, mark_text, ok_reply, path_text, relation_name, row_text, rows_reply, sign_text, signed_text, step_text, tuple_text, world_reply}
 use Rattle.bdb_render.specs.Tables.{catalog_lines, columns_text, edge_line, key_text, relation_line, row_line, signed_at, structure_lines, suffix_text, tables_reply, tuple_line, user_line, world_line, world_path}
 use Rattle.bdb_session.proofs.ErrorBases.{HasFlatNames, if_there, is_flat_row, is_flat_tuple, name_flat, names_flat, place_passes, relation_flat}
 use Rattle.bdb_session.proofs.ErrorTexts.{IsFlat, IsQuiet, decimal_flat, flat_append, flat_each, is_flat_value, is_quiet, joined_flat, quiet_append, quiet_from, quiet_line, quiet_lines, quoted_flat, row_flat, row_tells_none}
@@ -70,11 +70,11 @@ all_numbers [] = refl
 all_numbers (x ∷ xs) = all_numbers xs
 
 module _ (c : Catalog) (v : IsCatalog c) where
-  pub quoted_name_flat : (uid : ℕ) → IsFlat (quoted (user_name c uid))
-  quoted_name_flat uid = quoted_flat (user_name c uid) (name_flat c v uid)
+  pub quoted_name_flat : (uid : ℕ) → IsFlat (quoted (user_text c uid))
+  quoted_name_flat uid = quoted_flat (user_text c uid) (name_flat c v uid)
 
   step_flat : (uid : ℕ) → IsFlat (step_text c uid)
-  step_flat uid = flat_append (codes "/") (quoted (user_name c uid)) refl (quoted_name_flat uid)
+  step_flat uid = flat_append (codes "/") (quoted (user_text c uid)) refl (quoted_name_flat uid)
 
   pub path_flat : (w : List ℕ) → IsFlat (path_text c w)
   path_flat [] = refl
@@ -111,9 +111,9 @@ module _ (c : Catalog) (v : IsCatalog c) where
 
   -- ---- the tables
 
-  user_quiet : (uid : ℕ) → true ≡ true → is_quiet (codes "user " ++ decimal uid ++ codes " " ++ quoted (user_name c uid)) ≡ true
+  user_quiet : (uid : ℕ) → true ≡ true → is_quiet (codes "user " ++ decimal uid ++ codes " " ++ quoted (user_text c uid)) ≡ true
   user_quiet uid h =
-      let name = quoted (user_name c uid) in
+      let name = quoted (user_text c uid) in
       quiet_from (codes "user " ++ decimal uid ++ codes " " ++ name)
       (flat_append (codes "user " ++ decimal uid ++ codes " ") name
       (flat_append (codes "user " ++ decimal uid) (codes " ") (flat_append (codes "user ") (decimal uid) refl (decimal_flat uid)) refl) (quoted_name_flat uid)) refl
@@ -139,7 +139,7 @@ module _ (c : Catalog) (v : IsCatalog c) where
   catalog_quiet : IsQuiet (catalog_lines c)
   catalog_quiet =
       quiet_append (flat_map (user_line c) (user_numbers c.users)) (flat_map relation_line c.rels)
-      (quiet_lines (λ uid. true) (λ uid. codes "user " ++ decimal uid ++ codes " " ++ quoted (user_name c uid)) user_quiet (user_numbers c.users) (all_numbers (user_numbers c.users)))
+      (quiet_lines (λ uid. true) (λ uid. codes "user " ++ decimal uid ++ codes " " ++ quoted (user_text c uid)) user_quiet (user_numbers c.users) (all_numbers (user_numbers c.users)))
       (quiet_lines is_valid_relation (λ def. columns_text def ++ key_text def.key) relation_quiet c.rels v.rels_valid)
 
   tuple_quiet : (t : Tuple) → is_flat_tuple t ≡ true → is_quiet (codes "tuple " ++ tuple_text c t) ≡ true
@@ -162,10 +162,10 @@ module _ (c : Catalog) (v : IsCatalog c) where
         (suffix_flat w.suffix)) refl
 
     edge_quiet : (e : CanonEdge) → true ≡ true
-        → is_quiet (codes "edge " ++ path_text c (world_path k e.from) ++ codes " " ++ quoted (user_name c e.uid) ++ codes " " ++ path_text c (world_path k e.to)) ≡ true
+        → is_quiet (codes "edge " ++ path_text c (world_path k e.from) ++ codes " " ++ quoted (user_text c e.uid) ++ codes " " ++ path_text c (world_path k e.to)) ≡ true
     edge_quiet e h =
         let from = path_text c (world_path k e.from) in
-        let name = quoted (user_name c e.uid) in
+        let name = quoted (user_text c e.uid) in
         let to = path_text c (world_path k e.to) in
         quiet_from (codes "edge " ++ from ++ codes " " ++ name ++ codes " " ++ to)
         (flat_append (codes "edge " ++ from ++ codes " " ++ name ++ codes " ") to
@@ -201,7 +201,7 @@ module _ (c : Catalog) (v : IsCatalog c) where
         (quiet_lines is_flat_tuple (λ t. codes "tuple " ++ tuple_text c t) tuple_quiet k.tuples h)
         (quiet_lines (λ w. true) (λ w. codes "world " ++ path_text c w.path ++ codes " depth " ++ decimal (length w.path) ++ suffix_text c k w.suffix)
         world_line_quiet k.worlds (all_numbers k.worlds)))
-        (quiet_lines (λ e. true) (λ e. codes "edge " ++ path_text c (world_path k e.from) ++ codes " " ++ quoted (user_name c e.uid) ++ codes " " ++ path_text c (world_path k e.to))
+        (quiet_lines (λ e. true) (λ e. codes "edge " ++ path_text c (world_path k e.from) ++ codes " " ++ quoted (user_text c e.uid) ++ codes " " ++ path_text c (world_path k e.to))
         edge_quiet k.edges (all_numbers k.edges)))
         (quiet_lines (λ r. true) (λ r. codes "row " ++ path_text c (world_path k r.world) ++ codes " " ++ signed_at c k r.sign r.tuple ++ codes " " ++ mark_text r.explicit)
         (row_quiet h) k.rows (all_numbers k.rows))

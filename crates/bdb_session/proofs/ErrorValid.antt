@@ -12,6 +12,7 @@ use Rattle.bdb_base.specs.declared.kinds.Stmt.{Stmt}
 use Rattle.bdb_base.specs.declared.kinds.What.{What}
 use Rattle.bdb_base.proofs.UpdateLemmas.{delete_is_valid, update_is_valid}
 use Rattle.bdb_base.proofs.UserLemmas.{drop_user_is_valid}
+use Rattle.bdb_base.proofs.OptionLemmas.{nothing_mapped}
 use Rattle.bdb_bind.specs.Binding.{bound_of}
 use Rattle.bdb_bind.specs.Fits.{fits_catalog}
 use Rattle.bdb_bind.specs.Refusal.{refusal_of}
@@ -31,7 +32,6 @@ use Rattle.bdb_session.proofs.CatalogLemmas.{relation_is_valid, user_is_valid}
 use Rattle.bdb_session.proofs.ChangeFacts.{size_limit}
 use Rattle.bdb_session.proofs.ErrorReading.{SaysPrintable, not_refused_to_bind, reading_printable}
 use Rattle.bdb_session.proofs.LimitLemmas.{within_limits}
-use Rattle.bdb_session.proofs.OutcomeLemmas.{none_mapped}
 use Rattle.bdb_session.proofs.UpdateLemmas.{sets_fit, update_fits}
 use Rattle.bdb_session.specs.ErrorLaws.{BasesStayValid, HasValidBase}
 use Rattle.bdb_session.specs.Machine.{becomes, bound_outcome, clash_with, clashes_with, clashing_within, command_outcome, reading_outcome, refusal_from, tells, with_catalog}
@@ -85,7 +85,7 @@ bound_leads s (Insert x) v fits =
     let next = with_stmts s.base (with_statement s.base.stmts x) in
     let text = count_reply (if stands s.base.stmts x then 0 else 1) in
     unless_leads s (clashes_with (clash_of s.base x)) (becomes s next text) v
-    (λ apart. becomes_leads s next text v (λ room. insert_valid s x v fits (none_mapped clash_with (clash_of s.base x) apart) room))
+    (λ apart. becomes_leads s next text v (λ room. insert_valid s x v fits (nothing_mapped clash_with (clash_of s.base x) apart) room))
 bound_leads s (Delete path sign rel conds) v fits =
     becomes_leads s (with_stmts s.base (without_taken path sign rel conds s.base.stmts)) (count_reply (length (taken_by path sign rel conds s.base.stmts))) v
     (λ e. delete_is_valid s.base.catalog s.base.stmts path sign rel conds v)
@@ -93,7 +93,7 @@ bound_leads s (Update path sign rel sets conds) v fits =
     let next = with_stmts s.base (updated path sign rel conds sets s.base.stmts) in
     let text = count_reply (length (taken_by path sign rel conds s.base.stmts)) in
     unless_leads s (clashes_with (clashing_within next path)) (becomes s next text) v
-    (λ apart. becomes_leads s next text v (λ room. update_valid s path sign rel sets conds v fits (none_mapped clash_with (clashing_within next path) apart) room))
+    (λ apart. becomes_leads s next text v (λ room. update_valid s path sign rel sets conds v fits (nothing_mapped clash_with (clashing_within next path) apart) room))
 bound_leads s (Select q) v fits = tells_leads s (length (answers_of s.base q)) (rows_reply (answers_of s.base q)) (length (answers_of s.base q)) v
 bound_leads s ShowTables v fits = tells_leads s (line_count s.base.catalog (canon_of s.base)) (tables_reply s.base.catalog (canon_of s.base)) 0 v
 bound_leads s _ v fits = v

@@ -24,7 +24,7 @@ use Rattle.bdb_session.specs.declared.reading.Reading.TheVariants as reading
 use Rattle.bdb_session.specs.declared.reply.Reply.{Reply}
 use Rattle.bdb_session.specs.declared.stop.StopError.{StopError}
 use Rattle.bdb_session.specs.declared.stop.StopError.TheVariants.{Fault}
-use Rattle.bdb_session.proofs.ServedLemmas.{as_it_was, nothing_falls, refused_serves, still_agrees}
+use Rattle.bdb_session.proofs.ServedLemmas.{as_it_was, nothing_falls, refused_serves, still_agrees, ends_well}
 
 -- ---- what is known
 
@@ -123,13 +123,7 @@ blank_follows outcome next k old r is stays still text accepted answers =
         commits = λ _. omega arith;
         alone = λ _. as_it_was old;
       };
-      ends = record {
-        same = tt;
-        still = still;
-        never_fall = nothing_falls old;
-        cause = record { later = omega arith; rose = λ e. absurd cc };
-        err = tt;
-      };
+      ends = ends_well k k old old r still (nothing_falls old);
     })
 
 -- out of memory, with nothing done

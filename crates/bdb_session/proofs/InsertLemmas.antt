@@ -1,9 +1,9 @@
 -- What comes of an insert, by what is answered where the statement is added to tables.
 use Rattle.std.proofs.Common.{◌≡◌, ◌∙◌, ℕ, Bool, true, false, not, ◌&&◌, List, [], ◌∷◌, Option, Some, None, Result, Ok, Err, refl, ap, sym, subst, inl, inr}
-use Rattle.std.specs.Prelude.{find, if◌then◌else◌}
-use Rattle.std.specs.List.{list_any, list_all}
+use Rattle.std.specs.Prelude.{if◌then◌else◌}
+use Rattle.std.specs.List.{list_all}
 use Rattle.std.specs.Ordering.{is_eq}
-use Rattle.std.proofs.lemmas.Bool.{false≢true, and_parts, or_cases, or_parts, cond-false, not-true}
+use Rattle.std.proofs.lemmas.Bool.{false≢true, and_parts, or_cases, not-true}
 use Rattle.bdb_base.specs.Bases.{Contents, IsValid, belongs, key_lengths, stands, with_statement}
 use Rattle.bdb_base.specs.Clash.{clash}
 use Rattle.bdb_base.specs.Order.{statement_cmp}
@@ -13,6 +13,8 @@ use Rattle.bdb_base.specs.Worlds.{contradicted}
 use Rattle.bdb_base.specs.declared.kinds.Stmt.{Stmt}
 use Rattle.bdb_base.specs.declared.kinds.What.{What}
 use Rattle.bdb_base.proofs.SetLemmas.{is_eq-Equal}
+use Rattle.bdb_base.proofs.FindLemmas.{find_none}
+use Rattle.bdb_base.proofs.UpdateLemmas.{put_stands}
 use Rattle.bdb_bind.specs.declared.bound.Bound.TheVariants.{Insert}
 use Rattle.bdb_canon.specs.Sizes.{counts_of}
 use Rattle.bdb_canon.specs.declared.sizes.Counts.{Counts}
@@ -20,7 +22,6 @@ use Rattle.bdb_keep.specs.Calls.{IsUndo}
 use Rattle.bdb_keep.specs.Seen.{Seen, NeverFall}
 use Rattle.bdb_render.specs.Replies.{count_reply}
 use Rattle.bdb_render.specs.declared.refusal.Refusal.TheVariants as refusal
-use Rattle.bdb_tables.proofs.SignLemmas.{put_stands}
 use Rattle.bdb_undo.specs.declared.change.Change.{Change}
 use Rattle.bdb_undo.specs.declared.change.Named.TheVariants.{Nothing}
 use Rattle.bdb_undo.proofs.ChangeLemmas.{put_leads}
@@ -52,16 +53,11 @@ member_passes p (y ∷ ys) x h e =
       | inr a ↦ member_passes p ys x k.1 a
     ]
 
--- nothing is found where no item passes
-nothing_found : {X : Type 0} (p : X → Bool) (xs : List X) → list_any p xs ≡ false → find p xs ≡ None
-nothing_found p [] e = refl
-nothing_found p (x ∷ xs) e = let k = or_parts (p x) (list_any p xs) e in cond-false (p x) (Some x) (find p xs) k.0 ∙ nothing_found p xs k.1
-
 -- a statement of a valid base clashes with none of it
 standing_is_apart : (b : Contents) (x : Stmt) → IsValid b.catalog b.stmts → stands b.stmts x ≡ true → clash_of b x ≡ None
 standing_is_apart b x valid there =
     let keys = key_lengths b.catalog.rels in
-    nothing_found (λ y. same_path y.path x.path && clash keys x.tuple x.sign y.tuple y.sign) b.stmts
+    find_none (λ y. same_path y.path x.path && clash keys x.tuple x.sign y.tuple y.sign) b.stmts
     (not-true (contradicted keys b.stmts x.path x.tuple x.sign) (member_passes (λ y. not (contradicted keys b.stmts y.path y.tuple y.sign)) b.stmts x valid.stmts.no_clash there))
 
 -- ---- what comes of it

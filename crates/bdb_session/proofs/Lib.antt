@@ -19,7 +19,6 @@ pub mod ErrorReasons
 pub mod ErrorReplies
 pub mod ErrorTexts
 pub mod ErrorValid
-pub mod FindLemmas
 pub mod FollowLemmas
 pub mod InsertLemmas
 pub mod LeaveLemmas

@@ -11,7 +11,7 @@ use Rattle.bdb_canon.specs.declared.sizes.Counts.{Counts}
 use Rattle.bdb_session.specs.Sizes.{passed_limit, limit_passed}
 
 -- what is at most a number isn't above it
-above_false : (m n : ℕ) → leb n m ≡ true → ltb m n ≡ false
+pub above_false : (m n : ℕ) → leb n m ≡ true → ltb m n ≡ false
 above_false m n h = grind (arith, nat_tests)
 
 pub at_most : (m n : ℕ) → ltb m n ≡ false → n ≤ m

@@ -32,6 +32,7 @@ use Rattle.bdb_canon.proofs.RangeLemmas.{items_are_members}
 use Rattle.bdb_keep.specs.Tables.{Tables}
 use Rattle.bdb_paths.proofs.StateLemmas.{list_has_states, states_are_counted}
 use Rattle.bdb_paths.proofs.SuffixLemmas.{root_comes_first}
+use Rattle.bdb_canon.proofs.UserLemmas.{names_within}
 use Rattle.bdb_session.specs.Lines.{edges_by, lines_by}
 use Rattle.bdb_tables.specs.Stored.{Stores}
 
@@ -189,11 +190,5 @@ lines_are t b h =
     let lines = lines_by_counts b in
     omega arith
 
--- there are no more live users than places
-live_within : (users : List UserSlot) → length (user_names users) ≤ length users
-live_within [] = omega arith
-live_within (Live name ∷ users) = let rest = live_within users in omega arith
-live_within (Gone ∷ users) = let rest = live_within users in omega arith
-
 pub few_live : (users : List UserSlot) (n : ℕ) → n ≡ length (user_names users) → nat_le (length users) most_users ≡ true → n ≤ most_users
-few_live users n e few = let within = live_within users in let most = leb-true (length users) most_users few in omega arith
+few_live users n e few = let within = names_within users in let most = leb-true (length users) most_users few in omega arith

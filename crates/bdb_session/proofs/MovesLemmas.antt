@@ -1,4 +1,4 @@
--- What a session remembers of the bases after a step that is settled.
+-- What a session remembers of the bases after a step that is closed.
 use Rattle.std.proofs.Common.{◌≡◌, ◌∙◌, false, Option, Some, None, Result, Ok, Err, refl, ap, sym, subst, inl, inr}
 use Rattle.std.proofs.lemmas.Bool.{cases_Bool, MatchBool-at_true, MatchBool-at_false}
 use Rattle.bdb_base.specs.Bases.{Contents}
@@ -15,7 +15,7 @@ use Rattle.bdb_session.specs.declared.stop.StopError.TheVariants.{Fault}
 use Rattle.bdb_session.specs.Following.{Moves, moved_by}
 use Rattle.bdb_session.specs.Known.{Known, Agrees, Remembers}
 use Rattle.bdb_session.specs.Outcome.{State, Outcome, start_from, state_after}
-use Rattle.bdb_session.specs.Within.{IsKept, IsUndone, LeadsBy, Settles, TellsChange, TellsWithin, learned, noted_by}
+use Rattle.bdb_session.specs.Within.{IsKept, IsUndone, LeadsBy, Closes, TellsChange, TellsWithin, learned, noted_by}
 use Rattle.bdb_session.proofs.ServedLemmas.{still_agrees}
 use Rattle.bdb_session.proofs.WithinLemmas.{refused_stays}
 
@@ -62,8 +62,8 @@ module _ (outcome : State → Outcome) (before : Known) (news : News) (old run m
       remembers_still outcome before old new t (k.undo.dropped.undone ∙ told.changing.steps.ok.last ∙ began.last ∙ sym still.rest)
       (refused_stays s (outcome s) (sym h.reply.accepted ∙ refused)).0 m))
 
-  pub moves_settle : (now : Known) (result : Result Reply StopError) → Settles (learned before news) r before now mid new result → Moves outcome before now old new result
-  moves_settle now result ended = elim (cases_Bool r.accepted) [
+  pub moves_close : (now : Known) (result : Result Reply StopError) → Closes (learned before news) r before now mid new result → Moves outcome before now old new result
+  moves_close now result ended = elim (cases_Bool r.accepted) [
     | inl done ↦
         kept_moves now result (MatchBool-at_true (IsKept (learned before news) r before now mid new result) (IsUndone r before now mid new result) done ended)
     | inr refused ↦

@@ -64,11 +64,6 @@ agrees_written t u b k h same knows = subst (λ (x : Tables). Remembers x k (sta
 
 -- ---- reads where nothing runs
 
--- an error of the first call ends the call that made it
-pub first_err : {T U E : Type 0} (old new : Seen) (e fault : E) → Steps {T = T} {E = E} old new (Err e) fault → Steps {T = U} {E = E} old new (Err e) fault
-first_err old new e fault h =
-    record { cause = record { later = h.cause.later; rose = λ is. h.cause.rose (let same : e ≡ fault = cc in ap Err same) }; ok = tt; err = h.err }
-
 pub still_steps : {T E : Type 0} (old new : Seen) (r : Result T E) (fault : E) → IsStill old → OnOk r (new.kept ≡ old.kept) → Steps old new r fault → Unchanged old new
 still_steps old new (Ok x) fault still kept h = record { kept = kept; last = h.ok.last; commits = h.ok.commits }
 still_steps old new (Err e) fault still kept h = record { kept = h.err.undone ∙ sym still.rest; last = h.err.last; commits = h.err.commits }

@@ -31,10 +31,6 @@ use Rattle.bdb_session.specs.Sizes.{passed_limit, too_many}
 use Rattle.bdb_syntax.specs.declared.command.Command.{Command}
 use Rattle.bdb_session.proofs.LimitLemmas.{no_limit}
 
-pub none_mapped : {X Y : Type 0} (f : X → Y) (o : Option X) → option_map f o ≡ None → o ≡ None
-none_mapped f None e = refl
-none_mapped f (Some x) e = cc
-
 -- a refusal, and none
 pub unless_some : (o : Option Refusal) (x : Refusal) (rest : Outcome) → o ≡ Some x → unless o rest ≡ Refused x
 unless_some o x rest e = ap (λ (r : Option Refusal). unless r rest) e

@@ -1,6 +1,5 @@
 -- How often answering a query reads at most.
 use Rattle.std.proofs.Common.{◌≡◌, ◌∙◌, ℕ, ◌+◌, ◌≤◌, ◌^◌, Bool, true, false, ◌&&◌, nat_eq, nat_lt, List, [], ◌∷◌, Option, Some, None, is_some, Result, length, map, refl, ap, sym, subst, inl, inr, arith}
-use Rattle.std.specs.Prelude.{T}
 use Rattle.std.specs.FinMap as tables
 use Rattle.std.specs.FinMap.Entries.{is_sorted, below_all, is_sorted-where_key}
 use Rattle.std.specs.List.{list_any, AllByRecursion}
@@ -26,8 +25,9 @@ use Rattle.bdb_base.specs.declared.kinds.Sign.{Sign}
 use Rattle.bdb_base.specs.declared.kinds.Stmt.{Stmt}
 use Rattle.bdb_base.specs.declared.kinds.Value.{Value}
 use Rattle.bdb_base.specs.declared.tuple.Tuple.{Tuple}
-use Rattle.bdb_base.proofs.CountLemmas.{distinct_count-le, one_unless}
+use Rattle.bdb_base.proofs.CountLemmas.{distinct_count-le, one_unless, count_within}
 use Rattle.bdb_base.proofs.WorldRowsLemmas.{rows_are_the_world, same_row_tells}
+use Rattle.bdb_base.proofs.BoolLemmas.{is_T}
 use Rattle.bdb_bind.specs.Fits.{can_be_answered}
 use Rattle.bdb_bind.specs.Safe.{is_safe}
 use Rattle.bdb_catalog.specs.Bases.{StoresValid}
@@ -35,7 +35,7 @@ use Rattle.bdb_catalog.specs.Showing.{inherited}
 use Rattle.bdb_catalog.proofs.ShowingLemmas.{plain_paths_inherit}
 use Rattle.bdb_exec.specs.Based.{world_number}
 use Rattle.bdb_exec.specs.Readable.{CanBeRun}
-use Rattle.bdb_exec.specs.Rows.{signed_of, world_prefix}
+use Rattle.bdb_exec.specs.Rows.{signed_of, relation_prefix}
 use Rattle.bdb_exec.specs.Seen.{sight_of, signed_under}
 use Rattle.bdb_exec.proofs.DenyLemmas.{all, all_here, are_typed, IsHere, shown_all}
 use Rattle.bdb_exec.proofs.TypedLemmas.{raw}
@@ -61,10 +61,6 @@ use Rattle.bdb_session.specs.QueryReads.{HasFewRows, ReadsAsBounded}
 use Rattle.bdb_session.specs.declared.stop.StopError.{StopError}
 use Rattle.bdb_session.proofs.QueryLemmas.{stored_shows}
 use Rattle.bdb_session.proofs.TellLemmas.{always_ok}
-
-is_T : (b : Bool) → T b → b ≡ true
-is_T true h = refl
-is_T false h = absurd h
 
 -- ---- the rows of a world and a relation, whose tuples differ
 
@@ -119,7 +115,7 @@ module _ (t : Tables) (h : CanBeRun t) (w rel : ℕ) (nw : IsNum w) (nr : IsNum 
   here_sorted : is_sorted bytes_cmp (map (raw val_codec) here) ≡ true
   here_sorted =
       ap (is_sorted bytes_cmp) (sym (are_typed t h w rel nw nr).rows)
-      ∙ is_T _ (is_sorted-where_key bytes_cmp (is_prefix (val_codec.number ∷ world_prefix w rel)) (tables.entries t) (tables.entries_sorted t))
+      ∙ is_T _ (is_sorted-where_key bytes_cmp (is_prefix (val_codec.number ∷ relation_prefix w rel)) (tables.entries t) (tables.entries_sorted t))
 
   -- the tuples that are shown
   shown_tuples : map (λ (x : Tuple × Sign). x.0) ((sight_of t).rows w rel) ≡ map tuple_in here
@@ -136,14 +132,6 @@ module _ (t : Tables) (h : CanBeRun t) (w rel : ℕ) (nw : IsNum w) (nr : IsNum 
       ∙ sym (ap length (shown_all t h w rel nw nr) ∙ length-map here (signed_of t))
 
 -- ---- no more than the signed tuples of the world
-
-count-le : (xs : List Tuple) → distinct_count same_tuple xs ≤ length xs
-count-le [] = omega arith
-count-le (x ∷ xs) = let rest = count-le xs in by (list_any (same_tuple x) xs) rest
-  where
-    by : (b : Bool) → distinct_count same_tuple xs ≤ length xs → one_unless b + distinct_count same_tuple xs ≤ length (x ∷ xs)
-    by true le = omega arith
-    by false le = omega arith
 
 -- a tuple that is shown is shown with some sign
 some_sign : (y : Tuple) (rows : List (Tuple × Sign)) → list_any (same_tuple y) (map (λ (x : Tuple × Sign). x.0) rows) ≡ true → (s : Sign) × (has_signed rows y s ≡ true)
@@ -181,7 +169,7 @@ held_tuple r = r.tuple
 
 no_rows : (t : Tables) (b : Contents) (h : StoresValid t b) (v : List ℕ) (rel : ℕ) → nat_lt rel (2 ^ 32) ≡ false → length (shown_at t b h v rel) ≡ 0
 unfolding sight_of
-no_rows t b h v rel e = ap length (cond-false (nat_lt rel (2 ^ 32)) (signed_under t (world_prefix (world_number h.stored.names v) rel)) [] e)
+no_rows t b h v rel e = ap length (cond-false (nat_lt rel (2 ^ 32)) (signed_under t (relation_prefix (world_number h.stored.names v) rel)) [] e)
 
 -- a state's world has each tuple that is shown of it
 shown_is_told : (t : Tables) (b : Contents) (h : StoresValid t b) (v : List ℕ) (rel : ℕ) → is_state b.stmts v ≡ true → (y : Tuple) → list_any (same_tuple y) (map signed_tuple (shown_at t b h v rel)) ≡ true
@@ -209,7 +197,7 @@ state_rows t b h v rel state = by (nat_lt rel (2 ^ 32)) refl
         let sized = h.stored.stored.states.names.sized v (world_number h.stored.names v) (there_is (number_of h.stored.names v) named) in
         let differ = shown_differ t (stored_shows t b h).run (world_number h.stored.names v) rel sized (small e) in
         let fewer = distinct_count-le same_tuple same_tuple-Decides (map signed_tuple (shown_at t b h v rel)) (map held_tuple (world_rows b v)) (shown_is_told t b h v rel state) in
-        let le = count-le (map held_tuple (world_rows b v)) in
+        let le = count_within (map held_tuple (world_rows b v)) in
         let m = length-map (world_rows b v) held_tuple in
         omega arith
     by false e = let none = no_rows t b h v rel e in omega arith

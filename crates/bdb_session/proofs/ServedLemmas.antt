@@ -33,6 +33,16 @@ serves_as outcome known before now old new result is h = record {
   ends = h.ends;
 }
 
+-- a call that answers ends well where nothing has fallen
+pub ends_well : {R : Type 0} (before now : Known) (old new : Seen) (x : R) → IsStill new → NeverFall old new → Ends before now old new (Ok x)
+ends_well before now old new x still fall = record {
+  same = tt;
+  still = still;
+  never_fall = fall;
+  cause = record { later = fall.faults; rose = λ e. absurd cc };
+  err = tt;
+}
+
 -- what is refused leaves all as it was
 refused_served : (s : State) (x : Refusal) (k : Known) (old new : Seen) (result : Result Reply StopError) → Agrees old.kept k s → Unchanged old new → NeverFall old new
     → AnswersAlone k.catalog (Refused x) result → IsServed s (Refused x) k old new result
@@ -46,13 +56,7 @@ refused_served s x k old new (Err stop) a same fall told = record { reply = tt; 
 
 refused_ends : (x : Refusal) (k : Known) (old new : Seen) (result : Result Reply StopError) → IsStill new → Unchanged old new → NeverFall old new
     → AnswersAlone k.catalog (Refused x) result → Ends k k old new result
-refused_ends x k old new (Ok r) still same fall told = record {
-  same = tt;
-  still = still;
-  never_fall = fall;
-  cause = record { later = fall.faults; rose = λ e. absurd cc };
-  err = tt;
-}
+refused_ends x k old new (Ok r) still same fall told = ends_well k k old new r still fall
 refused_ends x k old new (Err stop) still same fall told = record {
   same = refl;
   still = still;

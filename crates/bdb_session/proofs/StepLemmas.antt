@@ -31,12 +31,12 @@ use Rattle.bdb_session.specs.declared.stop.StopError.TheVariants.{Fault, Memory}
 use Rattle.bdb_session.specs.Known.{Known, Agrees}
 use Rattle.bdb_session.specs.Machine.{clash_with}
 use Rattle.bdb_session.specs.Outcome.{State, Outcome, Refused, is_accepted}
-use Rattle.bdb_session.specs.Within.{IsSaid, IsStopped, Refuses, IsKept, IsUndone, Settles, sized}
+use Rattle.bdb_session.specs.Within.{IsSaid, IsStopped, Refuses, IsKept, IsUndone, Closes, sized}
 use Rattle.bdb_session.proofs.DeleteLemmas.{gone_is, may_go}
 use Rattle.bdb_session.proofs.LeaveLemmas.{may_leave}
 use Rattle.bdb_session.proofs.ServedLemmas.{still_agrees}
 use Rattle.bdb_session.proofs.UpdateLemmas.{may_change, update_path_fits}
-use Rattle.bdb_session.proofs.WriteLemmas.{one_delete_writes, same_writes, settled_writes}
+use Rattle.bdb_session.proofs.WriteLemmas.{one_delete_writes, same_writes, closed_writes}
 
 -- steps from one keeper to another are steps from a keeper with the rows and writes of the first to one with those of the second
 through_same : (es : List (Stmt × Contents)) (old from to new : Seen) → from.kept ≡ old.kept → from.writes ≡ old.writes → new.kept ≡ to.kept → new.writes ≡ to.writes
@@ -152,7 +152,7 @@ module _ (learns : Known) (r : Reply) (before now : Known) (old run mid new : Se
   kept_through es h (Ok q) k = through_same es old run mid new began.kept began.writes k.commit.kept k.commit.writes h
   kept_through es h (Err stop) k = tt
 
-  done_through : (es : List (Stmt × Contents)) → r.accepted ≡ true → WritesThrough run es mid → (result : Result Reply StopError) → Settles learns r before now mid new result
+  done_through : (es : List (Stmt × Contents)) → r.accepted ≡ true → WritesThrough run es mid → (result : Result Reply StopError) → Closes learns r before now mid new result
       → OnOk result (WritesThrough old es new)
   done_through es done h result e =
       kept_through es h result (MatchBool-at_true (IsKept learns r before now mid new result) (IsUndone r before now mid new result) done e)
@@ -161,7 +161,7 @@ module _ (learns : Known) (r : Reply) (before now : Known) (old run mid new : Se
   kept_leaves b uid h (Ok q) k = leaves_same b uid old run mid new began.kept began.writes k.commit.writes h
   kept_leaves b uid h (Err stop) k = tt
 
-  done_leaves : (b : Contents) (uid : ℕ) → r.accepted ≡ true → WritesLeaving b uid run mid → (result : Result Reply StopError) → Settles learns r before now mid new result
+  done_leaves : (b : Contents) (uid : ℕ) → r.accepted ≡ true → WritesLeaving b uid run mid → (result : Result Reply StopError) → Closes learns r before now mid new result
       → OnOk result (WritesLeaving b uid old new)
   done_leaves b uid done h result e =
       kept_leaves b uid h result (MatchBool-at_true (IsKept learns r before now mid new result) (IsUndone r before now mid new result) done e)
@@ -170,7 +170,7 @@ module _ (learns : Known) (r : Reply) (before now : Known) (old run mid new : Se
   kept_accepted done (Ok q) k = ap (λ (x : Reply). x.accepted) k.reply ∙ done
   kept_accepted done (Err stop) k = tt
 
-  done_accepted : r.accepted ≡ true → (result : Result Reply StopError) → Settles learns r before now mid new result → IfOk result (λ q. q.accepted ≡ true)
+  done_accepted : r.accepted ≡ true → (result : Result Reply StopError) → Closes learns r before now mid new result → IfOk result (λ q. q.accepted ≡ true)
   done_accepted done result e =
       kept_accepted done result (MatchBool-at_true (IsKept learns r before now mid new result) (IsUndone r before now mid new result) done e)
 
@@ -182,9 +182,9 @@ module _ (learns : Known) (r : Reply) (before now : Known) (old run mid new : Se
   }
   kept_updates b gone sets done h (Err stop) k = record { steps = tt; refused = tt }
 
-  settled_updates : (b : Contents) (gone : List Stmt) (sets : List SetCol) → mid.last ≡ run.last → UpdatesThrough b gone sets run mid (Ok r) → (result : Result Reply StopError)
-      → Settles learns r before now mid new result → UpdatesThrough b gone sets old new result
-  settled_updates b gone sets last h result e = elim (cases_Bool r.accepted) [
+  closed_updates : (b : Contents) (gone : List Stmt) (sets : List SetCol) → mid.last ≡ run.last → UpdatesThrough b gone sets run mid (Ok r) → (result : Result Reply StopError)
+      → Closes learns r before now mid new result → UpdatesThrough b gone sets old new result
+  closed_updates b gone sets last h result e = elim (cases_Bool r.accepted) [
     | inl done ↦
         kept_updates b gone sets done (h.steps done) result (MatchBool-at_true (IsKept learns r before now mid new result) (IsUndone r before now mid new result) done e)
     | inr undone ↦
@@ -201,26 +201,26 @@ module _ (learns : Known) (r : Reply) (before now : Known) (old run mid new : Se
   begun_agrees : (s : State) → Agrees old.kept before s → Agrees run.kept before s
   begun_agrees s a = still_agrees old.kept run.kept before s began.kept a
 
-  pub leave_settles : (uid : ℕ) → WritesAsTold (DropUser uid) before run mid (Ok r) → Settles learns r before now mid new result → WritesAsTold (DropUser uid) before old new result
-  leave_settles uid within e = λ s a.
+  pub leave_closes : (uid : ℕ) → WritesAsTold (DropUser uid) before run mid (Ok r) → Closes learns r before now mid new result → WritesAsTold (DropUser uid) before old new result
+  leave_closes uid within e = λ s a.
       let h = within s (begun_agrees s a) in
       record {
         steps = done_leaves learns r before now old run mid new began s.base uid h.accepted h.steps result e;
         accepted = done_accepted learns r before now old run mid new began h.accepted result e;
       }
 
-  pub delete_settles : (w : List ℕ) (sign : Sign) (rel : ℕ) (conds : List Cond) → WritesAsTold (Delete w sign rel conds) before run mid (Ok r)
-      → Settles learns r before now mid new result → WritesAsTold (Delete w sign rel conds) before old new result
-  delete_settles w sign rel conds within e = λ s a.
+  pub delete_closes : (w : List ℕ) (sign : Sign) (rel : ℕ) (conds : List Cond) → WritesAsTold (Delete w sign rel conds) before run mid (Ok r)
+      → Closes learns r before now mid new result → WritesAsTold (Delete w sign rel conds) before old new result
+  delete_closes w sign rel conds within e = λ s a.
       let h = within s (begun_agrees s a) in
       let done = h.accepted in
       record {
-        one = λ single. settled_writes (length w + 2) 8 learns r before now old run mid new began (h.one single) (λ f. absurd (false≢true (sym f ∙ done))) result e;
+        one = λ single. closed_writes (length w + 2) 8 learns r before now old run mid new began (h.one single) (λ f. absurd (false≢true (sym f ∙ done))) result e;
         steps = done_through learns r before now old run mid new began (steps_without s.base (taken_by w sign rel conds s.base.stmts)) done h.steps result e;
         accepted = done_accepted learns r before now old run mid new began done result e;
       }
 
-  pub update_settles : (w : List ℕ) (sign : Sign) (rel : ℕ) (sets : List SetCol) (conds : List Cond) → WritesAsTold (Update w sign rel sets conds) before run mid (Ok r)
-      → mid.last ≡ run.last → Settles learns r before now mid new result → WritesAsTold (Update w sign rel sets conds) before old new result
-  update_settles w sign rel sets conds within last e = λ s a.
-      settled_updates learns r before now old run mid new began s.base (taken_by w sign rel conds s.base.stmts) sets last (within s (begun_agrees s a)) result e
+  pub update_closes : (w : List ℕ) (sign : Sign) (rel : ℕ) (sets : List SetCol) (conds : List Cond) → WritesAsTold (Update w sign rel sets conds) before run mid (Ok r)
+      → mid.last ≡ run.last → Closes learns r before now mid new result → WritesAsTold (Update w sign rel sets conds) before old new result
+  update_closes w sign rel sets conds within last e = λ s a.
+      closed_updates learns r before now old run mid new began s.base (taken_by w sign rel conds s.base.stmts) sets last (within s (begun_agrees s a)) result e

@@ -21,7 +21,7 @@ use Rattle.bdb_session.specs.Outcome.{State, Outcome, Done}
 use Rattle.bdb_session.specs.Telling.{ReadsWithin, WritesNothing, world_reads}
 use Rattle.bdb_session.specs.Within.{IsSaid, TellsWithin}
 use Rattle.bdb_shown.specs.Showing.{ReadsWorld, ShowsWorld}
-use Rattle.bdb_worlds.specs.Bounds.{RisesWithin}
+use Rattle.bdb_worlds.specs.Bounds.{EndsWithin}
 use Rattle.bdb_session.proofs.WithinLemmas.{read_tells}
 
 -- the cause of an error is that of another with the same one
@@ -71,8 +71,8 @@ world_tells k path text old mid new result some own is fall kept goes said =
 pub world_reads_within : {T : Type 0} (k : Known) (path : List ℕ) (old mid new : Seen) (result : Result T StopError) → ReadsWorld old.kept path old.reads mid.reads
     → list_all (is_user k.catalog.users) path ≡ true → new.reads ≡ mid.reads → ReadsWithin (λ s. world_reads s.base path) k old new result
 world_reads_within k path old mid new result most own same s a =
-    let there : RisesWithin (world_reads s.base path) old.reads mid.reads = most s.base (agreed_users old.kept path k s a own) in
-    always_ok result (subst (λ n. RisesWithin (world_reads s.base path) old.reads n) (sym same) there)
+    let there : EndsWithin (world_reads s.base path) old.reads mid.reads = most s.base (agreed_users old.kept path k s a own) in
+    always_ok result (subst (λ n. EndsWithin (world_reads s.base path) old.reads n) (sym same) there)
 
 -- the users of a path that fits are those of the catalog
 pub fitting_users : (users : List UserSlot) (limit : ℕ) (path : List ℕ) → fits_path users limit path ≡ true → list_all (is_user users) path ≡ true

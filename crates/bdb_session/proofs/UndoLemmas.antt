@@ -31,7 +31,7 @@ use Rattle.bdb_session.specs.Outcome.{State, Outcome, Blank, Refused, Done, is_a
 use Rattle.bdb_session.specs.Served.{Serves, AnswersAlone}
 use Rattle.bdb_session.specs.Undoing.{led, stepped}
 use Rattle.bdb_session.specs.declared.news.News.{News}
-use Rattle.bdb_session.specs.Within.{IsKept, IsUndone, IsSaid, Settles, TellsWithin, learned, noted_by}
+use Rattle.bdb_session.specs.Within.{IsKept, IsUndone, IsSaid, Closes, TellsWithin, learned, noted_by}
 use Rattle.bdb_session.specs.declared.reply.Reply.{Reply}
 use Rattle.bdb_session.specs.declared.stop.StopError.{StopError}
 use Rattle.bdb_session.specs.declared.stop.StopError.TheVariants.{Fault, Memory}
@@ -107,15 +107,15 @@ module _ (x : Refusal) (step : Timeline → Option Timeline) (before learns gone
   begun : (t : Timeline) → Remembers old.kept before t → Remembers run.kept before t
   begun t r = still_remembers old.kept run.kept before t began.kept r
 
-  settled : (r : Reply) (now : Known) (result : Result Reply StopError) → r.accepted ≡ true → IsKept gone r before now mid new result → Settles gone r before now mid new result
-  settled r now result e k = subst (λ b. MatchBool b (IsKept gone r before now mid new result) (IsUndone r before now mid new result)) (sym e) k
+  closed : (r : Reply) (now : Known) (result : Result Reply StopError) → r.accepted ≡ true → IsKept gone r before now mid new result → Closes gone r before now mid new result
+  closed r now result e k = subst (λ b. MatchBool b (IsKept gone r before now mid new result) (IsUndone r before now mid new result)) (sym e) k
 
   serves_to : (t : Timeline) (m : Remembers old.kept before t) (r : Reply) (now : Known) (result : Result Reply StopError) → TellsStep step before learns run mid (Ok r)
       → r.accepted ≡ true → IsKept gone r before now mid new result → Serves (step_outcome (leads t m).0) before now old new result
   serves_to t m r now result h e k =
       let to = leads t m in
       step_serves (step_outcome to.0) (once to.0) before gone old run mid new still began r now result
-      (tells_step step before learns gone run mid catalog counts t to.0 (begun t m) to.1 (Ok r) h) (settled r now result e k)
+      (tells_step step before learns gone run mid catalog counts t to.0 (begun t m) to.1 (Ok r) h) (closed r now result e k)
 
   served_to : (t : Timeline) (m : Remembers old.kept before t) (r : Reply) (now : Known) (result : Result Reply StopError) → IsKept gone r before now mid new result
       → Serves (step_outcome (leads t m).0) before now old new result → IsFollowed t (step_outcome (leads t m).0 (start_from t.now)) (leads t m).0 now old new result
@@ -284,16 +284,16 @@ module _ (k : Known) (news : News) (old run mid new : Seen) (still : IsStill old
       let to = redo_leads k old.kept first.0 t m first.1 in
       (to.0, to.1, subst (λ (o : Option Change). StandsFor (stepped_forth (noted_by o k.history)) to.0) (sym unchanged) (forth_redoes k.history t to.0 m.history to.1))
 
-  pub undo_settles : 0 < length k.history.undos → (r : Reply) (now : Known) (result : Result Reply StopError) → TellsStep undone k (learned k news) run mid (Ok r)
+  pub undo_closes : 0 < length k.history.undos → (r : Reply) (now : Known) (result : Result Reply StopError) → TellsStep undone k (learned k news) run mid (Ok r)
       → IsKept (gone_back (learned k news)) r k now mid new result → Follows (λ t. stepped NoUndo (undone t)) (λ t. led t (undone t)) k now old new result
-  undo_settles many r now result h kept =
+  undo_closes many r now result h kept =
       let to = undo_leads_on many some.timeline some.remembers in
       step_follows NoUndo undone k (learned k news) (gone_back (learned k news)) old run mid new still began refl refl (undo_leads_on many) some r now result h
       (step_accepted undone k (learned k news) run mid some.timeline to.0 (begins some.timeline some.remembers) to.1 r h) kept
 
-  pub redo_settles : 0 < length k.history.redos → (r : Reply) (now : Known) (result : Result Reply StopError) → TellsStep redone k (learned k news) run mid (Ok r)
+  pub redo_closes : 0 < length k.history.redos → (r : Reply) (now : Known) (result : Result Reply StopError) → TellsStep redone k (learned k news) run mid (Ok r)
       → IsKept (gone_forth (learned k news)) r k now mid new result → Follows (λ t. stepped NoRedo (redone t)) (λ t. led t (redone t)) k now old new result
-  redo_settles many r now result h kept =
+  redo_closes many r now result h kept =
       let to = redo_leads_on many some.timeline some.remembers in
       step_follows NoRedo redone k (learned k news) (gone_forth (learned k news)) old run mid new still began refl refl (redo_leads_on many) some r now result h
       (step_accepted redone k (learned k news) run mid some.timeline to.0 (begins some.timeline some.remembers) to.1 r h) kept

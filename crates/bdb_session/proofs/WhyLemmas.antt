@@ -23,7 +23,7 @@ use Rattle.bdb_session.specs.declared.reply.Reply.{Reply}
 use Rattle.bdb_session.specs.declared.stop.StopError.{StopError}
 use Rattle.bdb_session.proofs.TellLemmas.{always_ok, fitting_users}
 use Rattle.bdb_session.proofs.WithinLemmas.{read_tells}
-use Rattle.bdb_worlds.specs.Bounds.{RisesWithin}
+use Rattle.bdb_worlds.specs.Bounds.{EndsWithin}
 
 -- what is bound may be asked of the base that a session agrees on
 module _ (k : Known) (x : Stmt) (fits : fits_catalog k.catalog (Why x) ≡ true) where
@@ -66,4 +66,4 @@ module _ (k : Known) (x : Stmt) (fits : fits_catalog k.catalog (Why x) ≡ true)
       → ReadsWithin (λ s. why_reads s.base x) k old new result
   why_reads_within w e old mid new result most same = λ s a.
       let near = subst (λ (v : List ℕ). ReadsNear old mid v x.tuple) e most in
-      always_ok result (subst (λ n. RisesWithin (why_reads s.base x) old.reads n) (sym same) (near s.base (may_ask old.kept s a)))
+      always_ok result (subst (λ n. EndsWithin (why_reads s.base x) old.reads n) (sym same) (near s.base (may_ask old.kept s a)))

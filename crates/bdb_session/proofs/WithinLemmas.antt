@@ -1,7 +1,8 @@
 -- What becomes of a step within a transaction.
 use Rattle.std.proofs.Common.{◌≡◌, ◌∙◌, ℕ, ◌≤◌, true, false, [], Result, Ok, Err, refl, sym, ap, subst, inl, inr, arith}
 use Rattle.std.proofs.lemmas.Bool.{cases_Bool, MatchBool-at_true, MatchBool-at_false}
-use Rattle.bdb_base.specs.Causes.{HasCause, Rose, RoseBy, Rises}
+use Rattle.bdb_base.specs.Causes.{HasCause, Rises}
+use Rattle.bdb_base.proofs.CauseLemmas.{rose_later, rises_once}
 use Rattle.bdb_keep.specs.Calls.{IsBegin, IsUndo}
 use Rattle.bdb_keep.specs.Seen.{Seen, IsStill, IsDropped, NeverFall, Unchanged, GoesOn}
 use Rattle.bdb_render.specs.declared.refusal.Refusal.{Refusal}
@@ -17,8 +18,8 @@ use Rattle.bdb_session.specs.declared.stop.StopError.TheVariants.{Fault, Memory}
 use Rattle.bdb_session.specs.Known.{Known, Agrees, AgreesOnSome}
 use Rattle.bdb_session.specs.Outcome.{State, Outcome, Blank, Refused, Done, text_of, is_accepted, state_after, commit_count}
 use Rattle.bdb_session.specs.Served.{IsReply, Serves}
-use Rattle.bdb_session.specs.Within.{IsToldWithin, TellsWithin, IsSaid, IsKept, IsUndone, Settles}
-use Rattle.bdb_session.proofs.ServedLemmas.{still_agrees, stop_serves}
+use Rattle.bdb_session.specs.Within.{IsToldWithin, TellsWithin, IsSaid, IsKept, IsUndone, Closes}
+use Rattle.bdb_session.proofs.ServedLemmas.{still_agrees, stop_serves, ends_well}
 
 -- ---- what is told of a step
 
@@ -138,9 +139,6 @@ pub dropped_serves : (outcome : State → Outcome) (k : Known) (old new : Seen) 
     → HasCause {T = Reply} old.faults new.faults (Err stop) Fault → Serves outcome k k old new (Err stop)
 dropped_serves outcome k old new stop still d fall cause = stop_serves outcome k old new stop (dropped_is_still old new d) (dropped_is_unchanged old new still d) fall cause
 
-rose_later : (a b c : ℕ) → a ≤ b → Rose b c → Rose a c
-rose_later a b c le r = omega arith
-
 pub cause_later : {T U : Type 0} (a b c : ℕ) (stop : StopError) → a ≤ b → HasCause {T = T} b c (Err stop) Fault → HasCause {T = U} a c (Err stop) Fault
 cause_later a b c stop le h = record { later = omega (arith, h.later); rose = λ is. rose_later a b c le (h.rose (let same : stop ≡ Fault = cc in ap Err same)) }
 
@@ -155,9 +153,6 @@ pub refused_stays : (s : State) (o : Outcome) → is_accepted o ≡ false → (s
 refused_stays s Blank e = absurd cc
 refused_stays s (Refused x) e = (refl, refl)
 refused_stays s (Done text answers next) e = absurd cc
-
-pub rises_once : (a b c : ℕ) → b ≡ a → RoseBy 1 b c → Rises 1 a c
-rises_once a b c e r = λ k. omega arith
 
 -- A transaction began, in which a step told, which counts where it is accepted. The session learns from it.
 module _ (outcome : State → Outcome) (sure : (s : State) → is_accepted (outcome s) ≡ true → commit_count (outcome s) ≡ 1) (before learns : Known) (old run mid new : Seen) (still : IsStill old)
@@ -193,13 +188,7 @@ module _ (outcome : State → Outcome) (sure : (s : State) → is_accepted (outc
               commits = subst (λ n. Rises n old.commits new.commits) (sym once) (rises_once old.commits mid.commits new.commits from.1 c.commits);
               alone = λ none. absurd (omega arith);
             };
-        ends = record {
-          same = tt;
-          still = record { stopped = c.stopped; rest = c.kept ∙ sym c.last };
-          never_fall = counts_then old mid new (counts_then old run mid began.counts t.changing.counts) c.counts;
-          cause = record { later = (counts_then old mid new (counts_then old run mid began.counts t.changing.counts) c.counts).faults; rose = λ e. absurd cc };
-          err = tt;
-        };
+        ends = ends_well before now old new q (record { stopped = c.stopped; rest = c.kept ∙ sym c.last }) (counts_then old mid new (counts_then old run mid began.counts t.changing.counts) c.counts);
       }
 
   step_lost : (r : Reply) (now : Known) (stop : StopError) → TellsWithin outcome before learns run mid (Ok r) → IsKept learns r before now mid new (Err stop)
@@ -232,16 +221,10 @@ module _ (outcome : State → Outcome) (sure : (s : State) → is_accepted (outc
               commits = subst (λ n. Rises n old.commits new.commits) (sym stays.1) (λ k. let e = unchanged.commits in omega arith);
               alone = λ none. unchanged;
             };
-        ends = record {
-          same = tt;
-          still = record { stopped = d.stopped; rest = d.undone ∙ sym d.last };
-          never_fall = fall;
-          cause = record { later = fall.faults; rose = λ e. absurd cc };
-          err = tt;
-        };
+        ends = ends_well before before old new r (record { stopped = d.stopped; rest = d.undone ∙ sym d.last }) fall;
       }
 
-  pub step_serves : (r : Reply) (now : Known) (result : Result Reply StopError) → TellsWithin outcome before learns run mid (Ok r) → Settles learns r before now mid new result
+  pub step_serves : (r : Reply) (now : Known) (result : Result Reply StopError) → TellsWithin outcome before learns run mid (Ok r) → Closes learns r before now mid new result
       → Serves outcome before now old new result
   step_serves r now result t h = elim (cases_Bool r.accepted) [
     | inl done ↦ kept result (MatchBool-at_true (IsKept learns r before now mid new result) (IsUndone r before now mid new result) done h) done

@@ -1,5 +1,5 @@
 -- How often is written where a step is told of within a transaction, and where the transaction ends.
-use Rattle.std.proofs.Common.{◌≡◌, ◌∙◌, ℕ, ◌+◌, ◌*◌, true, false, List, length, Result, Ok, Err, OnOk, refl, ap, sym, subst, inl, inr, arith}
+use Rattle.std.proofs.Common.{◌≡◌, ◌∙◌, ℕ, ◌+◌, ◌*◌, true, false, List, length, Result, Ok, Err, OnOk, refl, ap, sym, subst, inl, inr}
 use Rattle.std.specs.FinMap as tables
 use Rattle.std.specs.List.{AllByRecursion}
 use Rattle.std.proofs.lemmas.Bool.{cases_Bool, false≢true, MatchBool-at_true, MatchBool-at_false}
@@ -24,7 +24,8 @@ use Rattle.bdb_update.specs.Replacing.{WritesForOne}
 use Rattle.bdb_update.specs.declared.answer.Added.TheVariants.{New, Already}
 use Rattle.bdb_update.specs.declared.answer.UpdateError.{UpdateError}
 use Rattle.bdb_update.specs.declared.answer.UpdateError.TheVariants as change
-use Rattle.bdb_worlds.specs.Bounds.{RisesWithin}
+use Rattle.bdb_worlds.specs.Bounds.{EndsWithin}
+use Rattle.bdb_update.proofs.SpendLemmas.{none_within}
 use Rattle.bdb_session.specs.Bounds.{InsertsWithin, RefusedUnwritten, StandsUnwritten}
 use Rattle.bdb_session.specs.declared.reply.Reply.{Reply}
 use Rattle.bdb_session.specs.declared.stop.StopError.{StopError}
@@ -32,7 +33,7 @@ use Rattle.bdb_session.specs.declared.stop.StopError.TheVariants.{Fault, Memory}
 use Rattle.bdb_session.specs.Known.{Known, Agrees, AgreesOnSome}
 use Rattle.bdb_session.specs.Machine.{clash_with}
 use Rattle.bdb_session.specs.Outcome.{State, Outcome, Refused, is_accepted}
-use Rattle.bdb_session.specs.Within.{IsSaid, IsStopped, Refuses, IsKept, IsUndone, Settles, sized}
+use Rattle.bdb_session.specs.Within.{IsSaid, IsStopped, Refuses, IsKept, IsUndone, Closes, sized}
 use Rattle.bdb_session.proofs.DeleteLemmas.{gone_is}
 use Rattle.bdb_session.proofs.InsertLemmas.{insert_meets}
 use Rattle.bdb_session.proofs.ServedLemmas.{still_agrees}
@@ -40,18 +41,12 @@ use Rattle.bdb_session.proofs.TakenLemmas.{all_taken, only_one, taken_at}
 
 -- ---- what is written
 
-rises_none : (n before now : ℕ) → now ≡ before → RisesWithin n before now
-rises_none n before now e = λ fits. omega (arith, e)
-
-nothing_written : (times more : ℕ) (old new : Seen) → new.writes ≡ old.writes → WritesWithin times more old new
-nothing_written times more old new e = λ ps d. rises_none (times * length ps + more) old.writes new.writes e
-
 -- a bound from one keeper to another is one from a keeper with the rows and writes of the first to one with those of the second
 pub same_writes : (times more : ℕ) (old from to new : Seen) → from.kept ≡ old.kept → from.writes ≡ old.writes → new.kept ≡ to.kept → new.writes ≡ to.writes
     → WritesWithin times more from to → WritesWithin times more old new
 same_writes times more old from to new k w l v h = λ ps d.
     let there = subst (λ (t : Tables). AreDifferences (tables.get t) (tables.get to.kept) ps) (sym k) (subst (λ (t : Tables). AreDifferences (tables.get old.kept) (tables.get t) ps) l d) in
-    subst (λ n. RisesWithin (times * length ps + more) old.writes n) (sym v) (subst (λ n. RisesWithin (times * length ps + more) n to.writes) w (h ps there))
+    subst (λ n. EndsWithin (times * length ps + more) old.writes n) (sym v) (subst (λ n. EndsWithin (times * length ps + more) n to.writes) w (h ps there))
 
 -- ---- within a transaction
 
@@ -80,7 +75,7 @@ stopped_writes times more stop old mid new result said =
 module _ (k : Known) (x : Stmt) (before after : Counts) (old mid new : Seen) (result : Result Reply StopError) (fits : belongs k.catalog x ≡ true) (some : AgreesOnSome old.kept (sized k before)) where
   said_refused : (o : Outcome) → mid.writes ≡ old.writes → IsSaid k.catalog o mid new result → OnOk result (WritesWithin (length x.path + 2) 8 old new) × RefusedUnwritten old new result
   said_refused o e said =
-      (said_writes (length x.path + 2) 8 k.catalog o old mid new result (nothing_written (length x.path + 2) 8 old mid e) said, said_unwritten k.catalog o old mid new result e said)
+      (said_writes (length x.path + 2) 8 k.catalog o old mid new result (none_within (length x.path + 2) 8 old mid e) said, said_unwritten k.catalog o old mid new result e said)
 
   pub insert_err_writes : (e : UpdateError) → Adds old mid before after x (Err e) → Refuses k.catalog e mid new result
       → OnOk result (WritesWithin (length x.path + 2) 8 old new) × RefusedUnwritten old new result
@@ -133,8 +128,8 @@ module _ (learns : Known) (r : Reply) (before now : Known) (old run mid new : Se
   kept_unwritten (Ok q) done k = λ f. absurd (false≢true (sym f ∙ ap (λ (x : Reply). x.accepted) k.reply ∙ done))
   kept_unwritten (Err stop) done k = tt
 
-  pub settled_unwritten : (result : Result Reply StopError) → Settles learns r before now mid new result → RefusedUnwritten old new result
-  settled_unwritten result h = elim (cases_Bool r.accepted) [
+  pub closed_unwritten : (result : Result Reply StopError) → Closes learns r before now mid new result → RefusedUnwritten old new result
+  closed_unwritten result h = elim (cases_Bool r.accepted) [
     | inl done ↦ kept_unwritten result done (MatchBool-at_true (IsKept learns r before now mid new result) (IsUndone r before now mid new result) done h)
     | inr undone ↦
         let k = MatchBool-at_false (IsKept learns r before now mid new result) (IsUndone r before now mid new result) undone h in
@@ -147,20 +142,20 @@ module _ (times more : ℕ) (learns : Known) (r : Reply) (before now : Known) (o
   kept_writes (Ok q) k = same_writes times more old run mid new began.kept began.writes k.commit.kept k.commit.writes within
   kept_writes (Err stop) k = tt
 
-  pub settled_writes : (result : Result Reply StopError) → Settles learns r before now mid new result → OnOk result (WritesWithin times more old new)
-  settled_writes result h = elim (cases_Bool r.accepted) [
+  pub closed_writes : (result : Result Reply StopError) → Closes learns r before now mid new result → OnOk result (WritesWithin times more old new)
+  closed_writes result h = elim (cases_Bool r.accepted) [
     | inl done ↦ kept_writes result (MatchBool-at_true (IsKept learns r before now mid new result) (IsUndone r before now mid new result) done h)
     | inr undone ↦
         let k = MatchBool-at_false (IsKept learns r before now mid new result) (IsUndone r before now mid new result) undone h in
-        subst (λ (x : Result Reply StopError). OnOk x (WritesWithin times more old new)) (sym k.reply) (nothing_written times more old new (k.undo.writes ∙ refused undone ∙ began.writes))
+        subst (λ (x : Result Reply StopError). OnOk x (WritesWithin times more old new)) (sym k.reply) (none_within times more old new (k.undo.writes ∙ refused undone ∙ began.writes))
   ]
 
   kept_same : mid.writes ≡ run.writes → (result : Result Reply StopError) → IsKept learns r before now mid new result → OnOk result (new.writes ≡ old.writes)
   kept_same e (Ok q) k = k.commit.writes ∙ e ∙ began.writes
   kept_same e (Err stop) k = tt
 
-  settled_same : mid.writes ≡ run.writes → (result : Result Reply StopError) → Settles learns r before now mid new result → OnOk result (new.writes ≡ old.writes)
-  settled_same e result h = elim (cases_Bool r.accepted) [
+  closed_same : mid.writes ≡ run.writes → (result : Result Reply StopError) → Closes learns r before now mid new result → OnOk result (new.writes ≡ old.writes)
+  closed_same e result h = elim (cases_Bool r.accepted) [
     | inl done ↦ kept_same e result (MatchBool-at_true (IsKept learns r before now mid new result) (IsUndone r before now mid new result) done h)
     | inr undone ↦
         let k = MatchBool-at_false (IsKept learns r before now mid new result) (IsUndone r before now mid new result) undone h in
@@ -168,10 +163,10 @@ module _ (times more : ℕ) (learns : Known) (r : Reply) (before now : Known) (o
   ]
 
   -- an insert
-  pub insert_settles : (x : Stmt) → times ≡ length x.path + 2 → more ≡ 8 → StandsUnwritten x before run mid (Ok r)
-      → (result : Result Reply StopError) → Settles learns r before now mid new result → InsertsWithin x before old new result
-  insert_settles x t m already result h = record {
-    within = subst (λ n. OnOk result (WritesWithin n 8 old new)) t (subst (λ n. OnOk result (WritesWithin times n old new)) m (settled_writes result h));
-    refused = settled_unwritten learns r before now old run mid new began refused result h;
-    already = λ s a there. settled_same (already s (still_agrees old.kept run.kept before s began.kept a) there) result h;
+  pub insert_closes : (x : Stmt) → times ≡ length x.path + 2 → more ≡ 8 → StandsUnwritten x before run mid (Ok r)
+      → (result : Result Reply StopError) → Closes learns r before now mid new result → InsertsWithin x before old new result
+  insert_closes x t m already result h = record {
+    within = subst (λ n. OnOk result (WritesWithin n 8 old new)) t (subst (λ n. OnOk result (WritesWithin times n old new)) m (closed_writes result h));
+    refused = closed_unwritten learns r before now old run mid new began refused result h;
+    already = λ s a there. closed_same (already s (still_agrees old.kept run.kept before s began.kept a) there) result h;
   }

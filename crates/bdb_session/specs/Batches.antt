@@ -96,8 +96,8 @@ pub record AreRun (s : State) (es : List Event) (before told : List ℕ) (accept
   pub next : accepts_all s es ≡ true → Agrees new.kept now (after s es)
 
 -- how the transaction of a batch ends, which a copy of the session ran
-abbrev pub SettlesBatch : Known → BatchReply → Known → Known → Seen → Seen → Result BatchReply StopError → Type 0
-SettlesBatch copy told before now old new result =
+abbrev pub ClosesBatch : Known → BatchReply → Known → Known → Seen → Seen → Result BatchReply StopError → Type 0
+ClosesBatch copy told before now old new result =
     MatchBool told.refused (IsUndone told before now old new result) (IsKept (taken_over before copy) told before now old new result)
 
 -- ---- as a whole

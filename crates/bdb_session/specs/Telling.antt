@@ -11,7 +11,7 @@ use Rattle.bdb_session.specs.Known.{Known, Agrees}
 use Rattle.bdb_session.specs.Outcome.{State}
 use Rattle.bdb_why.specs.Ends.{ends_in}
 use Rattle.bdb_why.specs.Stored.{reads_at}
-use Rattle.bdb_worlds.specs.Bounds.{RisesWithin}
+use Rattle.bdb_worlds.specs.Bounds.{EndsWithin}
 
 -- Nothing is written, and the rows stay.
 pub record WritesNothing {T : Type 0} (old new : Seen) (result : Result T StopError) : Type 0 where
@@ -29,4 +29,4 @@ why_reads b x = length x.path + sum_by (reads_at (key_lengths b.catalog.rels) b.
 
 -- whichever state a session agrees on with the tables, an answer reads no more than this
 abbrev pub ReadsWithin : {T : Type 0} → (State → ℕ) → Known → Seen → Seen → Result T StopError → Type 0
-ReadsWithin most k old new result = (s : State) → Agrees old.kept k s → OnOk result (RisesWithin (most s) old.reads new.reads)
+ReadsWithin most k old new result = (s : State) → Agrees old.kept k s → OnOk result (EndsWithin (most s) old.reads new.reads)

@@ -105,5 +105,5 @@ pub record IsUndone {R : Type 0} (told : R) (before now : Known) (old new : Seen
   pub undo : IsUndo old new
 
 -- how a transaction ends in which a step was told of
-abbrev pub Settles : Known → Reply → Known → Known → Seen → Seen → Result Reply StopError → Type 0
-Settles learns told before now old new result = MatchBool told.accepted (IsKept learns told before now old new result) (IsUndone told before now old new result)
+abbrev pub Closes : Known → Reply → Known → Known → Seen → Seen → Result Reply StopError → Type 0
+Closes learns told before now old new result = MatchBool told.accepted (IsKept learns told before now old new result) (IsUndone told before now old new result)

@@ -44,7 +44,7 @@ struct Ran {
     refused: bool,
 }
 
-ghost use Rattle.bdb_session.specs.Batches.{AlterSome, Alters, AreRun, IsRun, ServesBatch, SettlesBatch, pieces, before_refused, batch_text, batch_state, batch_timeline, batch_commits, taken_over, without_changes};
+ghost use Rattle.bdb_session.specs.Batches.{AlterSome, Alters, AreRun, IsRun, ServesBatch, ClosesBatch, pieces, before_refused, batch_text, batch_state, batch_timeline, batch_commits, taken_over, without_changes};
 
 impl Session {
     /// Applies lines as one batch: all of them in one transaction, or none. The lines are applied in order, each as `apply` would,
@@ -130,7 +130,7 @@ impl Session {
                     refused: ran.refused,
                     text: List::from_vec(text),
                 };
-                self.settle_batch(keeper, copy, told)
+                self.close_batch(keeper, copy, told)
             }
             Err(stop) => Err(stop),
         }
@@ -138,14 +138,14 @@ impl Session {
 
     /// Ends the transaction of a batch: it is undone where a line was refused, and else committed. Then the session knows what the copy
     /// knows, which ran the lines.
-    fn settle_batch<K: Keeper>(
+    fn close_batch<K: Keeper>(
         &mut self,
         keeper: &mut K,
         copy: Session,
         told: BatchReply,
     ) -> Result<BatchReply, StopError>
         requires running { (K.seen keeper.old).running ≡ true }
-        ensures { SettlesBatch copy told self.old self.new (K.seen keeper.old) (K.seen keeper.new)
+        ensures { ClosesBatch copy told self.old self.new (K.seen keeper.old) (K.seen keeper.new)
             result }
     {
         if told.refused {

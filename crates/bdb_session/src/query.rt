@@ -17,7 +17,7 @@ use crate::session::Session;
 use crate::stop::StopError;
 use bdb_base::{List, Query};
 use bdb_bind::Bound;
-use bdb_exec::{ExecError, Rows, execute};
+use bdb_exec::{ExecError, Rows, run_plan};
 use bdb_keep::Keeper;
 use bdb_plan::{Plan, print_plan};
 use bdb_render::{Refusal, count_reply, rows_reply};
@@ -48,7 +48,7 @@ impl Session {
                 return Err(StopError::Memory);
             }
         };
-        match execute(self.alloc, keeper, &plan) {
+        match run_plan(self.alloc, keeper, &plan) {
             Ok(rows) => self.tell_rows(keeper, &rows),
             Err(ExecError::TooMany) => self.refuse_within(keeper, &Refusal::Many),
             Err(ExecError::Fault) => Err(StopError::Fault),

@@ -7,7 +7,7 @@ ghost use Rattle.bdb_session.specs.Following.{Moves};
 ghost use Rattle.bdb_session.specs.Known.{AgreesOnSome};
 ghost use Rattle.bdb_session.specs.Machine.{bound_outcome};
 ghost use Rattle.bdb_session.specs.Served.{Serves};
-ghost use Rattle.bdb_session.specs.Within.{Settles, TellsChange, TellsWithin, catalog_by, learned, noted_by, nothing_new};
+ghost use Rattle.bdb_session.specs.Within.{Closes, TellsChange, TellsWithin, catalog_by, learned, noted_by, nothing_new};
 
 use crate::change::Selection;
 use crate::news::{Names, News};
@@ -44,7 +44,7 @@ impl Session {
         }
         let mut news = self.nothing_new();
         match self.step(keeper, &mut news, bound) {
-            Ok(told) => self.settle(keeper, news, told),
+            Ok(told) => self.close(keeper, news, told),
             Err(stop) => Err(stop),
         }
     }
@@ -169,14 +169,14 @@ impl Session {
 
     /// Ends a transaction in which a step was told of: it is committed and learned from where it was accepted, and undone where it
     /// was refused.
-    fn settle<K: Keeper>(
+    fn close<K: Keeper>(
         &mut self,
         keeper: &mut K,
         news: News,
         told: Reply,
     ) -> Result<Reply, StopError>
         requires running { (K.seen keeper.old).running ≡ true }
-        ensures { Settles (learned self.old news) told self.old self.new (K.seen keeper.old)
+        ensures { Closes (learned self.old news) told self.old self.new (K.seen keeper.old)
             (K.seen keeper.new) result }
     {
         if !told.accepted {

@@ -44,7 +44,7 @@ impl Session {
         }
         let mut news = self.nothing_new();
         match self.undo_within(keeper, &mut news) {
-            Ok(told) => self.settle_back(keeper, news, told),
+            Ok(told) => self.close_back(keeper, news, told),
             Err(stop) => Err(stop),
         }
     }
@@ -77,7 +77,7 @@ impl Session {
     }
 
     /// Commits a step back, learns from it, and counts the change as undone.
-    fn settle_back<K: Keeper>(
+    fn close_back<K: Keeper>(
         &mut self,
         keeper: &mut K,
         news: News,
@@ -116,7 +116,7 @@ impl Session {
         }
         let mut news = self.nothing_new();
         match self.redo_within(keeper, &mut news) {
-            Ok(told) => self.settle_forth(keeper, news, told),
+            Ok(told) => self.close_forth(keeper, news, told),
             Err(stop) => Err(stop),
         }
     }
@@ -149,7 +149,7 @@ impl Session {
     }
 
     /// Commits a step forth, learns from it, and counts the change as made again.
-    fn settle_forth<K: Keeper>(
+    fn close_forth<K: Keeper>(
         &mut self,
         keeper: &mut K,
         news: News,

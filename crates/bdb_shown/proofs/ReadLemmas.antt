@@ -1,14 +1,13 @@
 -- Rows that were read with the bytes of their tuples are the rows of a world.
-use Rattle.std.proofs.Common.{◌≡◌, ◌∙◌, ℕ, zero, suc, ◌+◌, ◌-◌, ◌*◌, ◌<◌, ◌≤◌, true, List, [], ◌∷◌, ◌++◌, Some, Ok, Err, is_some, length, map, drop, get_or, refl, sym, ap, subst, arith, length-append}
+use Rattle.std.proofs.Common.{◌≡◌, ◌∙◌, ℕ, zero, suc, ◌+◌, ◌-◌, ◌*◌, ◌<◌, ◌≤◌, true, List, [], ◌∷◌, Some, Ok, Err, is_some, length, map, drop, get_or, refl, sym, ap, subst, arith}
 use Rattle.std.specs.FinMap as tables
 use Rattle.std.specs.List.{AllByRecursion, AllZip}
-use Rattle.std.proofs.Math.Seq.{drop-append_seam}
 use Rattle.bdb_base.specs.Causes.{RoseBy}
 use Rattle.bdb_keep.specs.Calls.{IsRead}
 use Rattle.bdb_keep.specs.Seen.{Seen, NeverFall, Steps}
 use Rattle.bdb_keep.specs.Spans.{Listed, AreRowsUnder}
 use Rattle.bdb_keep.specs.Tables.{Tables}
-use Rattle.bdb_key.specs.Bytes.{num_bytes, vals_bytes}
+use Rattle.bdb_key.specs.Bytes.{num_bytes}
 use Rattle.bdb_key.specs.Reading.{Reads}
 use Rattle.bdb_shown.specs.Rows.{AreRawRows, HasTupleFor, Spell, StandsWithTuple, StandWithTuples}
 use Rattle.bdb_tables.specs.Codec.{IsEntryOf, place}
@@ -18,9 +17,10 @@ use Rattle.bdb_tables.specs.Marks.{Mark}
 use Rattle.bdb_tables.specs.Spans.{AreEntriesOf, AreUnder, Spell as EntriesSpell}
 use Rattle.bdb_tables.proofs.Loops.{counts_then, goes_then, steps_err, steps_ok}
 use Rattle.bdb_tables.proofs.RangeLemmas.{read_fits, spelled_under}
+use Rattle.bdb_tables.proofs.MarkLemmas.{number_at_end, long_enough}
 use Rattle.bdb_val.specs.Reads.{AreReadUnder, AreTold, HaveTuples}
 use Rattle.bdb_val.specs.WorldReads.{held_row}
-use Rattle.bdb_val.specs.declared.stored.Stored.{Stored}
+use Rattle.bdb_val.specs.declared.stored.StoredRow.{StoredRow}
 use Rattle.bdb_val.proofs.ToldLemmas.{Stands, entries_stand}
 
 -- ---- one read after another
@@ -82,21 +82,9 @@ each_at P [] i k r h lt e = absurd (omega arith)
 each_at P (b ∷ rows) zero k r h lt e = subst P (sym e) h.0
 each_at P (b ∷ rows) (suc i) k r h lt e = each_at P rows i k r h.1 (omega arith) e
 
-number_at_end : (k : ValKey) → drop (length (val_bytes k) - 4) (val_bytes k) ≡ num_bytes k.3
-number_at_end k =
-    let front : List ℕ = num_bytes k.0 ++ num_bytes k.1 ++ vals_bytes k.2 in
-    let whole : length (front ++ num_bytes k.3) ≡ length front + 4 = length-append front (num_bytes k.3) in
-    let less : length (front ++ num_bytes k.3) - 4 ≡ length front = omega (arith, whole) in
-    ap (λ n. drop n (front ++ num_bytes k.3)) less ∙ drop-append_seam front (num_bytes k.3)
-
 -- the last four bytes of a row's key are its tuple's number
 pub number_last : (key last : List ℕ) (k : ValKey) → Reads IsValKey val_bytes key k → last ≡ drop (length key - 4) key → last ≡ num_bytes k.3
 number_last key last k r e = e ∙ ap (λ b. drop (length b - 4) b) (sym r.spelled) ∙ number_at_end k
-
-long_enough : (k : ValKey) → 4 ≤ length (val_bytes k)
-long_enough k =
-    let whole : length (val_bytes k) ≡ length (num_bytes k.0 ++ num_bytes k.1 ++ vals_bytes k.2) + 4 = length-append (num_bytes k.0 ++ num_bytes k.1 ++ vals_bytes k.2) (num_bytes k.3) in
-    omega (arith, whole)
 
 pub has_four : (key : List ℕ) (k : ValKey) → Reads IsValKey val_bytes key k → 4 ≤ length key
 has_four key k r = subst (λ b. 4 ≤ length b) r.spelled (long_enough k)
@@ -118,12 +106,12 @@ with_tuple t key mark last tuple s e found = record {
 
 -- the rows with their tuples, as they are stored, and spelled
 pub record AreStored (t : Tables) (prefix : List ℕ) (rows : Listed) : Type 0 where
-  pub stored : List Stored
+  pub stored : List StoredRow
   pub read : AreReadUnder t prefix stored
   pub spelled : Spell rows (map held_row stored)
 
 pub record AreToldSo (t : Tables) (es : List (ValKey × Mark)) (rows : Listed) : Type 0 where
-  pub stored : List Stored
+  pub stored : List StoredRow
   pub told : AreTold t es stored
   pub spelled : Spell rows (map held_row stored)
 
@@ -135,7 +123,7 @@ told_so t grammar (m ∷ marks) (r ∷ rows) h z =
     let rest = told_so t grammar marks rows h.1 z.1 in
     let found = z.0.tuple h.0.key h.0.key_reads in
     let entry : IsEntryOf tuple_codec (num_bytes h.0.key.3) r.0 = grammar 4 (num_bytes h.0.key.3) r.0 found in
-    let here : Stored = record { tid = h.0.key.3; tuple = entry.row; mark = h.0.row } in
+    let here : StoredRow = record { tid = h.0.key.3; tuple = entry.row; mark = h.0.row } in
     record {
       stored = here ∷ rest.stored;
       told = (record { tid = refl; mark = refl; tuple = record { in_grammar = entry.row_reads.fits; found = found ∙ ap Some (sym entry.row_reads.spelled) } }, rest.told);
@@ -147,7 +135,7 @@ are_stored t prefix rows grammar raw =
     let told = told_so t grammar raw.stored rows (fits t prefix raw.stored grammar raw.under) raw.tuples in
     record { stored = told.stored; read = record { entries = entries raw.stored (fits t prefix raw.stored grammar raw.under); under = entries_under t prefix raw.stored grammar raw.under; told = told.told }; spelled = told.spelled }
 
-length_spelled : (rows : Listed) (stored : List Stored) → Spell rows (map held_row stored) → length rows ≡ length stored
+length_spelled : (rows : Listed) (stored : List StoredRow) → Spell rows (map held_row stored) → length rows ≡ length stored
 length_spelled [] [] z = refl
 length_spelled [] (s ∷ stored) z = absurd z
 length_spelled (r ∷ rows) [] z = absurd z

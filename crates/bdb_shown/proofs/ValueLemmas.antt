@@ -2,6 +2,7 @@
 use Rattle.std.proofs.Common.{◌≡◌, ◌∙◌, ℕ, suc, ℤ, ◌-◌, ◌≤◌, ◌<◌, List, [], ◌∷◌, ◌++◌, length, map, drop, codes, refl, sym, ap, append_assoc, append-nil, length-append, arith, FitsSigned}
 use Rattle.std.specs.Int.{w64, to_be_bytes}
 use Rattle.std.specs.List.{flat_map}
+use Rattle.std.proofs.lemmas.List.{nil_from_length}
 use Rattle.bdb_base.specs.Texts.{quoted, int_text, value_text}
 use Rattle.bdb_base.specs.declared.kinds.Value.{Value}
 use Rattle.bdb_base.specs.declared.kinds.Value.TheVariants.{Int, Text}
@@ -84,14 +85,10 @@ left_more bytes rest old out wanted some h l = by l.left l.reads l.written
               ∙ w;
         }
 
-no_bytes : (bs : List ℕ) → length bs ≡ 0 → bs ≡ []
-no_bytes [] e = refl
-no_bytes (b ∷ bs) e = absurd (omega (arith, e))
-
 -- where no bytes are left, all is written
 pub left_all : (bytes out wanted : List ℕ) → length bytes ≡ 0 → AreLeft bytes out wanted → out ≡ wanted
 left_all bytes out wanted none l = by l.left l.reads l.written
   where
     by : (left : List Value) → Reads ArePlain values_bytes bytes left → out ++ flat_map behind_another left ≡ wanted → out ≡ wanted
     by [] r w = sym (append-nil out) ∙ w
-    by (v ∷ vals) r w = absurd (value_forms.some v (values_bytes vals) (sym (no_bytes bytes none) ∙ sym r.spelled))
+    by (v ∷ vals) r w = absurd (value_forms.some v (values_bytes vals) (sym (nil_from_length bytes none) ∙ sym r.spelled))

@@ -18,9 +18,9 @@ use Rattle.bdb_shown.proofs.ReadLemmas.{AreStored, are_stored, rows_stored}
 use Rattle.bdb_tables.specs.Grammar.{InGrammar}
 use Rattle.bdb_val.specs.Reads.{world_prefix}
 use Rattle.bdb_val.specs.WorldReads.{AreInOrder, AreRowsAt, held_row}
-use Rattle.bdb_val.specs.declared.stored.Stored.{Stored}
+use Rattle.bdb_val.specs.declared.stored.StoredRow.{StoredRow}
 use Rattle.bdb_val.proofs.WorldLemmas.{read_is_world}
-use Rattle.bdb_worlds.specs.Bounds.{RisesWithin}
+use Rattle.bdb_worlds.specs.Bounds.{EndsWithin}
 
 told_as_shown : (own : Bool) (held : List Held) → map (told own) held ≡ shown own held
 told_as_shown true held = by held
@@ -57,7 +57,7 @@ module _ (t : Tables) (path : List ℕ) (wid : ℕ) (own : Bool) (catalog : Cata
   shows_world b h =
       reply.shows ∙ ap (λ (held : List Held). world_reply catalog (record { held = held })) (told_as_shown own reply.ordered ∙ is_world b h)
 
-  length_held : (ss : List Stored) → length (map held_row ss) ≡ length ss
+  length_held : (ss : List StoredRow) → length (map held_row ss) ≡ length ss
   length_held [] = refl
   length_held (s ∷ ss) = ap suc (length_held ss)
 
@@ -68,7 +68,7 @@ module _ (t : Tables) (path : List ℕ) (wid : ℕ) (own : Bool) (catalog : Cata
       ∙ sym (length_shown own reply.ordered) ∙ ap (λ (held : List Held). length held) (is_world b h)
 
   -- and so often was read
-  pub reads_world : (old mid new : ℕ) → mid ≤ new → RisesWithin (length path + 1) old mid → new ≤ mid + (2 * length rows + 1) → ReadsWorld t path old new
+  pub reads_world : (old mid new : ℕ) → mid ≤ new → EndsWithin (length path + 1) old mid → new ≤ mid + (2 * length rows + 1) → ReadsWorld t path old new
   reads_world old mid new le state more b h below =
       let many = as_many b h in
       let e = state (omega (arith, below, le)) in

@@ -10,7 +10,7 @@ use Rattle.bdb_keep.specs.Tables.{Tables}
 use Rattle.bdb_render.specs.Replies.{world_reply}
 use Rattle.bdb_shown.specs.Rows.{told}
 use Rattle.bdb_val.specs.WorldReads.{is_before}
-use Rattle.bdb_worlds.specs.Bounds.{RisesWithin}
+use Rattle.bdb_worlds.specs.Bounds.{EndsWithin}
 
 -- the reply shows these rows, by tuple
 pub record ShowsRows (catalog : Catalog) (own : Bool) (held : List Held) (text : List ℕ) : Type 0 where
@@ -26,4 +26,4 @@ ShowsWorld t catalog path text = (b : Contents) → HasUsers t path b → text �
 -- whichever valid base they store so, its rows are read, and the states that the path leads along: once for each user of the path, and
 -- twice for each row
 abbrev pub ReadsWorld : Tables → List ℕ → ℕ → ℕ → Type 0
-ReadsWorld t path old new = (b : Contents) → HasUsers t path b → RisesWithin (length path + 2 * length (world_of (key_lengths b.catalog.rels) b.stmts path) + 8) old new
+ReadsWorld t path old new = (b : Contents) → HasUsers t path b → EndsWithin (length path + 2 * length (world_of (key_lengths b.catalog.rels) b.stmts path) + 8) old new

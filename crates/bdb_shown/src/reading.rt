@@ -9,8 +9,8 @@ ghost use Rattle.bdb_shown.specs.Rows.{AreRawRows, HasTupleFor, StandWithTuples}
 ghost use Rattle.bdb_tables.specs.Grammar.{InGrammar};
 ghost use Rattle.bdb_val.specs.Reads.{HaveTuples, world_prefix};
 
-use bdb_keep::{KeepError, Keeper, Span};
-use bdb_tables::TabError;
+use bdb_keep::{Keeper, Span};
+use bdb_tables::{TabError, table_error};
 use std::alloc::Global;
 
 // The number of the table of worlds' rows.
@@ -39,7 +39,7 @@ pub fn read_rows<K: Keeper>(
     let mut stored = Span::new(alloc);
     match keeper.under(MARKS, &prefix, &mut stored) {
         Ok(()) => {}
-        Err(error) => return Err(keeper_error(error)),
+        Err(error) => return Err(table_error(error)),
     }
     match fill_rows(alloc, keeper, &stored, rows) {
         Ok(()) => Ok(()),
@@ -94,7 +94,7 @@ fn read_tuple<K: Keeper>(keeper: &mut K, number: &[u8], tuple: &mut Vec<u8>) -> 
     match keeper.get(TUPLES, number, tuple) {
         Ok(true) => Ok(()),
         Ok(false) => unreachable!(),
-        Err(error) => Err(keeper_error(error)),
+        Err(error) => Err(table_error(error)),
     }
 }
 
@@ -104,14 +104,4 @@ fn last_four(bytes: &[u8]) -> &[u8]
     ensures { result.now ≡ drop (length bytes.now - 4) bytes.now }
 {
     &bytes[bytes.len() - 4..]
-}
-
-// A keeper's error as one of a table.
-fn keeper_error(error: KeepError) -> TabError
-    ensures { result ≡ TabError.Fault → error ≡ KeepError.Fault }
-{
-    match error {
-        KeepError::Fault => TabError::Fault,
-        KeepError::Memory => TabError::Memory,
-    }
 }

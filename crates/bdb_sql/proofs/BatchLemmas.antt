@@ -8,7 +8,7 @@ use Rattle.std.proofs.lemmas.Cmp.{nat_list_cmp_total, eq_by_cmp_equiv}
 use Rattle.sqlite_rules.specs.Lists.{Has}
 use Rattle.sqlite_rules.proofs.ListLemmas.{has_left, has_right}
 use Rattle.sqlite.specs.State.{State}
-use Rattle.bdb_keep.specs.Held.{written}
+use Rattle.bdb_memory.specs.Held.{written}
 use Rattle.bdb_keep.specs.Tables.{Tables, bytes_cmp, set_at}
 use Rattle.bdb_keep.proofs.RowsLemmas.{get-set_at, same_place, set_at-same}
 use Rattle.bdb_sql.specs.Rows.{HasRows}

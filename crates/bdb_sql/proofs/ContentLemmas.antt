@@ -1,5 +1,5 @@
 -- A database has the rows of one choice of tables.
-use Rattle.std.proofs.Common.{◌≡◌, inl, inr, ℕ, List, [], ◌∷◌, Option, Some, None, refl, sym, subst, ◌∙◌}
+use Rattle.std.proofs.Common.{◌≡◌, inl, inr, ℕ, List, [], ◌∷◌, Some, sym, subst, ◌∙◌}
 use Rattle.std.specs.Prelude.{filter}
 use Rattle.std.specs.List.{AllZip}
 use Rattle.std.specs.FinMap as fin
@@ -8,6 +8,7 @@ use Rattle.sqlite_trees.specs.Objects.{catalog_tree}
 use Rattle.sqlite_trees.specs.Tree.{Trees}
 use Rattle.sqlite_schema.specs.declared.schema.Schema.{Schema}
 use Rattle.sqlite_catalog.specs.Listing.{IsSound, IsTableRow, is_table_row}
+use Rattle.bdb_base.proofs.OptionLemmas.{same_option}
 use Rattle.bdb_keep.specs.Tables.{LieInTables, Tables}
 use Rattle.bdb_keep.proofs.Gets.{tables_from_gets}
 use Rattle.bdb_sql.specs.Content.{HasOneContent, LeavesOneContent}
@@ -15,11 +16,6 @@ use Rattle.bdb_sql.specs.Entries.{StandsFor}
 use Rattle.bdb_sql.specs.Kept.{kept_schema, kept_table, no_schema}
 use Rattle.bdb_sql.specs.Rows.{AreRowsOf}
 use Rattle.bdb_sql.proofs.MakeLemmas.{never_both}
-
-same_option : (x y : Option (List ℕ)) → ((c : List ℕ) → x ≡ Some c → y ≡ Some c) → ((c : List ℕ) → y ≡ Some c → x ≡ Some c) → x ≡ y
-same_option (Some c) y there back = sym (there c refl)
-same_option None (Some c) there back = back c refl
-same_option None None there back = refl
 
 -- a row stands for one row of the tables
 same_row : (u : Tables) (r : Row) (n m : ℕ) (k l c d : List ℕ) → StandsFor r n k c → StandsFor r m l d → fin.get u (m ∷ l) ≡ Some d → fin.get u (n ∷ k) ≡ Some c

@@ -1,5 +1,5 @@
 -- What a plain query over the one table finds, and what is left where rows are taken out by their numbers.
-use Rattle.std.proofs.Common.{◌≡◌, ◌⊎◌, pos, negsuc, ℤ, Bool, true, false, not, cond, List, [], ◌∷◌, ◌++◌, map, flat_map, None, IsPermutation, refl, sym, ap, ◌∙◌, subst, inl, inr}
+use Rattle.std.proofs.Common.{◌≡◌, ◌⊎◌, pos, negsuc, ℤ, Bool, true, false, not, cond, List, [], ◌∷◌, ◌++◌, map, flat_map, None, refl, sym, ap, ◌∙◌, subst, inl, inr}
 use Rattle.std.specs.List.{list_all}
 use Rattle.std.proofs.lemmas.Bool.{not-true}
 use Rattle.std.proofs.lemmas.List.Sorted.{IsPermutation-sym}
@@ -8,16 +8,16 @@ use Rattle.sqlite_value.specs.Order.{Row}
 use Rattle.sqlite_trees.specs.declared.store.Shape.TheVariants.{Table}
 use Rattle.sqlite_trees.specs.Tree.{Trees, rowid, has_rowid, without_rowid, IsTable}
 use Rattle.sqlite_trees.specs.View.{is_int, IsShaped}
-use Rattle.sqlite_trees.proofs.ListLemmas.{all-permutation}
 use Rattle.sqlite_trees.proofs.TreeLemmas.{IsShaped-filter, IsShaped-put_row}
 use Rattle.sqlite_rules.specs.Lists.{Has}
 use Rattle.sqlite_rules.specs.Edit.{without_all, put_all, row_at}
-use Rattle.sqlite_rules.proofs.ListLemmas.{all_has, all_from, has_right, has_filtered}
+use Rattle.sqlite_rules.proofs.ListLemmas.{has_right, has_filtered}
 use Rattle.sqlite_rules.proofs.ProbeLemmas.{has_mapped, mapped_has}
 use Rattle.sqlite_rules.proofs.PlaceLemmas.{left_or_taken}
 use Rattle.sqlite_sql.specs.Term.{Term, lit, holds, eval_all}
 use Rattle.sqlite_sql.specs.Query.{Query, Output, output, matches, inner, end, IsAnswer}
 use Rattle.sqlite_sql.specs.Program.{overlay}
+use Rattle.bdb_sql.proofs.LoadLemmas.{permuted}
 
 -- the rows that pass some tests, and what is shown of them
 abbrev pub plain_query : List Term → List Term → Query
@@ -55,9 +55,6 @@ matched_has : {X Y : Type 0} (p : X → Bool) (f : X → Y) (xs : List X) (x : X
 matched_has p f [] x h passes = absurd h
 matched_has p f (z ∷ xs) x (inl same) passes = rw (← same, passes) (inl refl)
 matched_has p f (z ∷ xs) x (inr later) passes = has_right (cond (p z) (f z ∷ []) []) (flat_map (λ w. cond (p w) (f w ∷ []) []) xs) (f x) (matched_has p f xs x later passes)
-
-permuted : {X : Type 0} (xs ys : List X) (x : X) → IsPermutation xs ys → Has ys x → Has xs x
-permuted xs ys x same = all_has (Has xs) ys x (all-permutation (Has xs) xs ys same (all_from (Has xs) xs (λ e h. h)))
 
 pub found_rows : (tests shown : List Term) (trees : Trees) (given : Row) (found : List Row) → IsAnswer (plain_query tests shown) (overlay trees []) given found → AreFound tests shown (trees 0) given found
 found_rows tests shown trees given found answer =

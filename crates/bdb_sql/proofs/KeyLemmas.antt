@@ -25,6 +25,7 @@ use Rattle.sqlite_rules.proofs.RuleLemmas.{keeps_at}
 use Rattle.sqlite_rules.proofs.PlaceLemmas.{tied_same}
 use Rattle.sqlite_rules.proofs.TableLemmas.{int_is}
 use Rattle.sqlite.specs.State.{State}
+use Rattle.bdb_base.proofs.SetLemmas.{is_eq-Equal}
 use Rattle.bdb_sql.specs.Kept.{kept_table, kept_schema}
 use Rattle.bdb_sql.specs.Changes.{StandsAt}
 use Rattle.bdb_sql.specs.Tied.{HoldsTable}
@@ -88,11 +89,6 @@ module _ (s : State) (holds : HoldsTable s) where
 
 -- ---- SQL's equality
 
-equal_is : (o : Ordering) → is_eq o ≡ true → o ≡ Equal
-equal_is Less h = absurd (true≢false (sym h))
-equal_is Equal h = refl
-equal_is Greater h = absurd (true≢false (sym h))
-
 abbrev compared : Bool → Bool → Bool
 compared null test = is_true (cond null Null (from_truth (Some test)))
 
@@ -107,7 +103,7 @@ equal_same a there = rw (there, tied_itself value_cmp_total a)
 
 pub equal_tied : (a b : Value) → equal Binary a b ≡ true → value_cmp a b ≡ Equal
 unfolding binary
-equal_tied a b h = equal_is _ (compared_parts (is_null a || is_null b) (is_eq (value_cmp a b)) h).1
+equal_tied a b h = is_eq-Equal _ (compared_parts (is_null a || is_null b) (is_eq (value_cmp a b)) h).1
 
 compared_not : (o : Ordering) → compared false (is_ne o) ≡ false → o ≡ Equal
 compared_not Less h = absurd (true≢false h)

@@ -38,7 +38,7 @@ way_has [] r h = absurd h
 way_has (q ∷ rows) r (inl same) = inl (ap way same)
 way_has (q ∷ rows) r (inr later) = inr (way_has rows r later)
 
-permuted : {X : Type 0} (xs ys : List X) (x : X) → IsPermutation xs ys → Has ys x → Has xs x
+pub permuted : {X : Type 0} (xs ys : List X) (x : X) → IsPermutation xs ys → Has ys x → Has xs x
 permuted xs ys x same = all_has (Has xs) ys x (all-permutation (Has xs) xs ys same (all_from (Has xs) xs (λ e h. h)))
 
 answer_shows : (trees : Trees) (rows : List Row) → IsAnswer select_query (overlay trees []) [] rows → AreShown (trees 0) rows

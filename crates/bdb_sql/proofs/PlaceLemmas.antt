@@ -4,7 +4,6 @@ use Rattle.std.specs.Prelude.{OnOk, is_some}
 use Rattle.std.specs.Ordering.{eq_by_cmp}
 use Rattle.std.specs.FinMap as fin
 use Rattle.std.proofs.lemmas.Bool.{both_ways}
-use Rattle.std.proofs.lemmas.Cmp.{nat_list_cmp_total, eq_by_cmp_equiv}
 use Rattle.sqlite_value.specs.declared.value.Value.TheVariants.{Int, Blob}
 use Rattle.sqlite_value.specs.Order.{Row}
 use Rattle.sqlite_rules.specs.Lists.{Has}
@@ -12,7 +11,7 @@ use Rattle.sqlite_rules.proofs.ProbeLemmas.{has_mapped, mapped_has}
 use Rattle.sqlite.specs.declared.error.Error.{Error}
 use Rattle.sqlite.specs.State.{State, ExecutesInside}
 use Rattle.bdb_keep.specs.Tables.{Tables, bytes_cmp}
-use Rattle.bdb_keep.proofs.Gets.{get_after_insert, get_after_remove}
+use Rattle.bdb_keep.proofs.Gets.{get_after_insert, get_after_remove, key_itself}
 use Rattle.bdb_keep.proofs.RowsLemmas.{same_place}
 use Rattle.bdb_sql.specs.Entries.{StandsFor, longest}
 use Rattle.bdb_sql.specs.Rows.{AreRowsOf, entry}
@@ -22,9 +21,6 @@ use Rattle.bdb_sql.specs.Written.{SetsPlace}
 use Rattle.bdb_sql.proofs.TextLemmas.{put_text, remove_text}
 use Rattle.bdb_sql.proofs.PutLemmas.{puts}
 use Rattle.bdb_sql.proofs.RemoveLemmas.{removes}
-
-here_itself : (p : List ℕ) → eq_by_cmp bytes_cmp p p ≡ true
-here_itself p = (eq_by_cmp_equiv nat_list_cmp_total).refl p
 
 -- a row that stands for a row of the tables is at its place, and at no other
 stands_at : (r : Row) (n : ℕ) (k c : List ℕ) → StandsFor (entry r) n k c → StandsAt n k r
@@ -42,7 +38,7 @@ other_place r n tab k key at apart = go (eq_by_cmp bytes_cmp (n ∷ k) (tab ∷ 
     go false e = refl
 
 apart_from : (r : Row) (n tab : ℕ) (k key : List ℕ) → StandsAt n k r → eq_by_cmp bytes_cmp (n ∷ k) (tab ∷ key) ≡ false → ¬ StandsAt tab key r
-apart_from r n tab k key a other b = both_ways _ other (ap (λ p. eq_by_cmp bytes_cmp p (tab ∷ key)) (one_place r n tab k key a b) ∙ here_itself (tab ∷ key))
+apart_from r n tab k key a other b = both_ways _ other (ap (λ p. eq_by_cmp bytes_cmp p (tab ∷ key)) (one_place r n tab k key a b) ∙ key_itself (tab ∷ key))
 
 module _ (tab : ℕ) (key : List ℕ) (old new : List Row) (t : Tables) where
   module _ (content : List ℕ) (table : (1 ≤ tab) × (tab ≤ 15)) (sizes : (length key ≤ longest) × (length content ≤ longest)) (put : IsPut tab key content old new) (are : AreRowsOf (map entry old) t) where
@@ -64,7 +60,7 @@ module _ (tab : ℕ) (key : List ℕ) (old new : List Row) (t : Tables) where
             key,
             content,
             subst (λ y. StandsFor y tab key content) (sym (x.2 ∙ same)) filed_stands,
-            gets (tab ∷ key) ∙ ap (λ b. cond b (Some content) (fin.get t (tab ∷ key))) (here_itself (tab ∷ key)),
+            gets (tab ∷ key) ∙ ap (λ b. cond b (Some content) (fin.get t (tab ∷ key))) (key_itself (tab ∷ key)),
           )
           | inr was ↦
               let w = are.each (entry x.0) (mapped_has entry old x.0 was.0) in (

@@ -3,7 +3,7 @@ use Rattle.std.specs.Prelude.{◌≡◌, ℕ, true, List, Option, IsTrue}
 use Rattle.sqlite_trees.specs.declared.store.Store.{Ghosts}
 use Rattle.sqlite.specs.Held.{Held, state}
 use Rattle.sqlite.specs.State.{State, HasCleanDisk, Shows, Survives}
-use Rattle.bdb_keep.specs.Held.{written}
+use Rattle.bdb_memory.specs.Held.{written}
 use Rattle.bdb_keep.specs.Tables.{Tables, set_at}
 use Rattle.bdb_sql.specs.Rows.{HasRows, Stores}
 use Rattle.bdb_sql.specs.Tied.{HoldsTable}

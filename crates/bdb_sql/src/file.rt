@@ -8,8 +8,8 @@ ghost use Rattle.sqlite.specs.Files.{file_state, over_files};
 ghost use Rattle.sqlite.specs.State.{HasCleanDisk, Opens};
 
 use crate::keeper::SqlKeeper;
+use crate::keeper_error::keeper_error;
 use crate::look::{Sight, look_at};
-use crate::told::told;
 use bdb_keep::KeepError;
 use sqlite::{Connection, File, FileFrom, FileStore, Start, Unknown};
 use std::alloc::Global;
@@ -76,7 +76,7 @@ impl<S: Start> SqlKeeper<FileStore<FileFrom<S>>> {
                 if let Some(left) = left {
                     drop(left.into_files());
                 }
-                SqlKeeper::closed(alloc, told(error))
+                SqlKeeper::closed(alloc, keeper_error(error))
             }
         }
     }
@@ -126,7 +126,7 @@ impl SqlKeeper<FileStore<File>> {
         };
         match conn.close() {
             Ok(()) => Ok(()),
-            Err(error) => Err(told(error)),
+            Err(error) => Err(keeper_error(error)),
         }
     }
 

@@ -14,10 +14,11 @@ ghost use Rattle.bdb_sql.specs.Tied.{MatchesFile, MayStore, StandsWhole, StoresR
 ghost use Rattle.sqlite.specs.State.{HasCleanDisk, Survives};
 ghost use Rattle.sqlite.specs.Held.{state};
 
+use crate::keeper_error::keeper_error;
 use crate::load::load;
-use crate::told::told;
 use crate::write::write_changes;
-use bdb_keep::{KeepError, Keeper, KeyEnd, Ledger, Span, Store};
+use bdb_keep::{KeepError, Keeper, KeyEnd, Span};
+use bdb_memory::{Ledger, Store};
 use sqlite::{Alter, Connection};
 use std::alloc::Global;
 use std::marker::Model;
@@ -392,6 +393,6 @@ fn write_to<S: Alter>(
     };
     match write_changes(alloc, conn, store) {
         Ok(()) => Ok(()),
-        Err(error) => Err(told(error)),
+        Err(error) => Err(keeper_error(error)),
     }
 }

@@ -3,12 +3,12 @@
 
 mod file;
 mod keeper;
+mod keeper_error;
 mod kept;
 pub mod laws;
 mod load;
 mod look;
 mod schema;
-mod told;
 mod write;
 
 pub use keeper::SqlKeeper;

@@ -10,10 +10,11 @@ ghost use Rattle.bdb_sql.specs.Rows.{AreRowsOf, Stores, entry};
 ghost use Rattle.bdb_sql.specs.Stays.{StaysAs};
 ghost use Rattle.bdb_sql.specs.Tied.{IsTied, IsWhole};
 
+use crate::keeper_error::keeper_error;
 use crate::kept::{LONGEST, SELECT};
 use crate::schema::{FileSchema, schema_of};
-use crate::told::told;
-use bdb_keep::{KeepError, Store};
+use bdb_keep::KeepError;
+use bdb_memory::Store;
 use sqlite::types::ValueRef;
 use sqlite::{Alter, Connection, Error, ErrorCode, Row};
 use std::alloc::Global;
@@ -71,7 +72,7 @@ fn load_found<S: Alter>(
         FileSchema::Nothing => Ok(Store::new(alloc)),
         FileSchema::Table => match read_rows(alloc, conn) {
             Ok(store) => Ok(store),
-            Err(error) => Err(told(error)),
+            Err(error) => Err(keeper_error(error)),
         },
         FileSchema::Other => Err(KeepError::Fault),
     }

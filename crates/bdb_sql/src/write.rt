@@ -3,18 +3,18 @@ ghost use Rattle.std.specs.Prelude.{◌≡◌, ◌∷◌, ◌≤◌, None, Some,
 ghost use Rattle.std.specs.Option.{option_map};
 ghost use Rattle.sqlite.specs.State.{HasCleanDisk};
 ghost use Rattle.sqlite.specs.Held.{state};
-ghost use Rattle.bdb_keep.specs.Held.{written};
+ghost use Rattle.bdb_memory.specs.Held.{written};
 ghost use Rattle.bdb_sql.specs.Tied.{HoldsTable, IsReady, IsTied, LeavesEither, WhereTied};
 ghost use Rattle.bdb_sql.specs.Written.{CommitsNothing, HasTable, Inside, SetsPlace, SetsPlaces, Turns};
 
 use crate::kept::{CREATE, LONGEST, PUT, REMOVE};
-use bdb_keep::Store;
+use bdb_memory::Store;
 use sqlite::{Alter, Connection, Error, ErrorCode, Transaction, params};
 use std::alloc::Global;
 use std::collections::BTreeSet;
 
 /// Writes the changes of a store to the file, all of them or none. The first of all commits makes the table with them.
-/// Where the file had the rows last settled it has the rows of the store afterwards. After a refusal a crash leaves the
+/// Where the file had the rows last committed it has the rows of the store afterwards. After a refusal a crash leaves the
 /// ones or the others.
 #[tactic(auto, using(crate::proofs::BatchLemmas::none_written))]
 pub fn write_changes<S: Alter>(

@@ -8,9 +8,10 @@ use Rattle.std.proofs.lemmas.List.Folds.{list_all-append}
 use Rattle.bdb_base.specs.Alternation.{alternates}
 use Rattle.bdb_base.specs.Bases.{Contents, is_user}
 use Rattle.bdb_base.specs.States.{deepest_suffix}
+use Rattle.bdb_base.proofs.OptionLemmas.{none_is_some, same_some}
 use Rattle.bdb_keep.specs.Tables.{Tables}
 use Rattle.bdb_names.proofs.Ends.{length_more, no_own_end, whole_end}
-use Rattle.bdb_names.proofs.NameLemmas.{deep_is_named, depth_at, edge_at, edge_found, edge_is, none_is_some, number_is, same_some}
+use Rattle.bdb_names.proofs.NameLemmas.{deep_is_named, depth_at, edge_at, edge_found, edge_is, number_is}
 use Rattle.bdb_paths.proofs.SuffixLemmas.{deepest_is_suffix, deepest_of_member}
 use Rattle.bdb_tables.specs.Codec.{HasAt}
 use Rattle.bdb_tables.specs.InUse.{depth_codec, edge_codec}

@@ -8,8 +8,8 @@ use Rattle.std.proofs.lemmas.Bool.{cases_Bool, false≢true, false_from_ne_true,
 use Rattle.std.proofs.lemmas.Bool.Decides.{nat_tests}
 use Rattle.std.proofs.lemmas.Cmp.{nat_list_cmp_total}
 use Rattle.bdb_keep.specs.Tables.{LieInTables, NoneFrom, Tables, bytes_cmp}
+use Rattle.bdb_keep.proofs.RowsLemmas.{same_place}
 use Rattle.bdb_tables.specs.Stored.{SameBut}
-use Rattle.bdb_tables.proofs.Held.{same_place}
 use Rattle.bdb_update.specs.StoredLaws.{HaveNoRows}
 use Rattle.bdb_stored.specs.Writing.{AreCleared, IsCleared, is_before}
 

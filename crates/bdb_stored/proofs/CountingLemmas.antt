@@ -1,14 +1,13 @@
 -- What is counted in the tables of a base are its sizes.
-use Rattle.std.proofs.Common.{◌≡◌, ◌∙◌, ℕ, ◌+◌, ◌-◌, ◌*◌, ◌^◌, ◌<◌, ◌≤◌, true, List, [], ◌∷◌, ◌++◌, length, map, take, get_or, Option, Some, None, is_some, refl, ap, sym, subst, arith}
+use Rattle.std.proofs.Common.{◌≡◌, ◌∙◌, ℕ, ◌+◌, ◌-◌, ◌*◌, ◌^◌, ◌<◌, ◌≤◌, true, List, [], ◌∷◌, ◌++◌, length, map, take, get_or, Some, is_some, refl, ap, sym, subst, arith}
 use Rattle.std.specs.Prelude.{sum_by, min}
-use Rattle.std.specs.Option.{option_map}
 use Rattle.std.proofs.lemmas.Bool.{leb-true}
 use Rattle.std.proofs.lemmas.List.{length-map, take_more}
 use Rattle.std.proofs.lemmas.List.Sums.{sum_by-cons, sum_by_push}
 use Rattle.bdb_base.specs.Bases.{Contents, tuple_count, world_count}
 use Rattle.bdb_base.specs.Limits.{most_worlds, most_tuples, most_statements}
 use Rattle.bdb_base.specs.Order.{path_cmp, tuple_cmp}
-use Rattle.bdb_base.specs.OrderLemmas.{path_exact, tuple_exact}
+use Rattle.bdb_base.specs.OrderLemmas.{path_exact, tuple_exact, is_eq_nat_cmp}
 use Rattle.bdb_base.specs.Same.{same_tuple}
 use Rattle.bdb_base.specs.SameLemmas.{same_tuple-Decides}
 use Rattle.bdb_base.specs.SortedSet.{is_member, sorted_set}
@@ -22,20 +21,19 @@ use Rattle.bdb_base.proofs.CountLemmas.{put_all_count}
 use Rattle.bdb_base.proofs.SetLemmas.{loop_makes_set, set_is_ascending, set_keeps_members}
 use Rattle.bdb_base.proofs.WorldLemmas.{valid_is_consistent}
 use Rattle.bdb_base.proofs.WorldRowsLemmas.{member_of_map}
+use Rattle.bdb_base.proofs.OptionLemmas.{some_of, one_there, some_mapped}
 use Rattle.bdb_canon.specs.Canonical.{row_count}
 use Rattle.bdb_canon.specs.declared.sizes.Counts.{Counts}
 use Rattle.bdb_keep.specs.Tables.{Tables}
 use Rattle.bdb_key.specs.Grammar.{IsNum}
-use Rattle.bdb_names.proofs.TurnedLemmas.{number_eq}
 use Rattle.bdb_paths.proofs.StateLemmas.{list_has_states, states_are_counted}
-use Rattle.bdb_tables.specs.Grammar.{InGrammar}
 use Rattle.bdb_tables.specs.InUse.{depth_codec, tuple_codec}
 use Rattle.bdb_tables.specs.InUseLaws.{numbers_in_order, number_rows_are_one, tuple_rows_are_one}
 use Rattle.bdb_tables.specs.Names.{Names, AreNames, path_of, number_of, is_named, depth_of, is_listed, are_once}
 use Rattle.bdb_tables.specs.Rows.{Tuples}
 use Rattle.bdb_tables.specs.Spans.{AreUnder}
 use Rattle.bdb_tables.specs.Stored.{StoredAs}
-use Rattle.bdb_update.proofs.GrammarLemmas.{stored_is_in_grammar}
+use Rattle.bdb_tables.proofs.UsedLemmas.{AllNamed, rest_named, first_named}
 use Rattle.bdb_update.proofs.KeyLemmas.{lengths_fit}
 use Rattle.bdb_update.proofs.StageLemmas.{over_has_tuples}
 use Rattle.bdb_update.proofs.SumLemmas.{sum_of_states, rows_are_few}
@@ -43,25 +41,17 @@ use Rattle.bdb_update.specs.Keys.{keys_of}
 use Rattle.bdb_val.specs.Reads.{HaveTuples}
 use Rattle.bdb_val.specs.Steps.{counted}
 use Rattle.bdb_val.specs.WorldReads.{AreRowsAt}
-use Rattle.bdb_val.proofs.HeldLemmas.{some_is}
 use Rattle.bdb_stored.specs.Counting.{AreWorlds, CountsRows, TellsCounts, explicit_rows}
 use Rattle.bdb_stored.specs.Items.{items_of}
 use Rattle.bdb_catalog.specs.Bases.{StoresSome, StoresValid}
 use Rattle.bdb_catalog.specs.Opening.{IsPartOf}
-use Rattle.bdb_stored.proofs.ItemLemmas.{AllNamed, ascending_apart, first_named, items_apart, items_cons, items_make_set, items_many, rest_named, sum_ones, sum_sorted}
+use Rattle.bdb_stored.proofs.ItemLemmas.{ascending_apart, items_apart, items_cons, items_make_set, items_many, sum_ones, sum_sorted}
 use Rattle.bdb_stored.proofs.KeyLemmas.{numbers_are, numbers_once, rows_are_items}
 use Rattle.bdb_stored.proofs.PathSums.{at_path, explicit_are_statements, paths_are_members, sum_of_paths}
 
 -- the numbers of rows
 abbrev pub numbers_of : {Row : Type 0} → List (ℕ × Row) → List ℕ
 numbers_of {Row} es = map (λ (e : ℕ × Row). e.0) es
-
-there_is : {X : Type 0} (f : X → ℕ) (o : Option X) → is_some (option_map f o) ≡ is_some o
-there_is f None = refl
-there_is f (Some x) = refl
-
-same_number : (j k : ℕ) (o : Option ℕ) → o ≡ Some j → o ≡ Some k → j ≡ k
-same_number j k o p q = cc
 
 module _ (t : Tables) (b : Contents) (v : StoresValid t b) where
   abbrev pub ns : Names
@@ -80,14 +70,14 @@ module _ (t : Tables) (b : Contents) (v : StoresValid t b) where
   consistent = valid_is_consistent b.catalog b.stmts v.valid
 
   pub one_path : (j k : ℕ) (w : List ℕ) → path_of ns j ≡ Some w → path_of ns k ≡ Some w → j ≡ k
-  one_path j k w p q = same_number j k (number_of ns w) (names.named j w p) (names.named k w q)
+  one_path j k w p q = one_there j k (number_of ns w) (names.named j w p) (names.named k w q)
 
   pub one_tuple : (j k : ℕ) (u : Tuple) → ts.tuple j ≡ Some u → ts.tuple k ≡ Some u → j ≡ k
-  one_tuple j k u p q = same_number j k (ts.number u) (h.tuples.named j u p) (h.tuples.named k u q)
+  one_tuple j k u p q = one_there j k (ts.number u) (h.tuples.named j u p) (h.tuples.named k u q)
 
   world_sized : (n : ℕ) → is_some (depth_of ns n) ≡ true → IsNum n
   world_sized n e =
-      let w = some_is (path_of ns n) (sym (there_is (λ w. length w) (path_of ns n)) ∙ e) in
+      let w = some_of (path_of ns n) (sym (some_mapped (λ w. length w) (path_of ns n)) ∙ e) in
       names.sized w.0 n (names.named n w.0 w.1)
 
   state_member : (w : List ℕ) → is_member path_cmp (states_of b.stmts) w ≡ is_named ns w
@@ -101,11 +91,11 @@ module _ (t : Tables) (b : Contents) (v : StoresValid t b) where
 
     pub wids_are : (n : ℕ) → is_listed n wids ≡ is_some (path_of ns n)
     wids_are n =
-        numbers_are depth_codec numbers_in_order number_eq (λ k f. f) (λ k f. f) number_rows_are_one t (depth_of ns) h.states.tables.depth world_sized es under n
-        ∙ there_is (λ w. length w) (path_of ns n)
+        numbers_are depth_codec numbers_in_order is_eq_nat_cmp (λ k f. f) (λ k f. f) number_rows_are_one t (depth_of ns) h.states.tables.depth world_sized es under n
+        ∙ some_mapped (λ w. length w) (path_of ns n)
 
     pub wids_once : are_once wids ≡ true
-    wids_once = numbers_once depth_codec numbers_in_order number_eq (λ k f. f) (λ k f. f) es under.each under.sorted
+    wids_once = numbers_once depth_codec numbers_in_order is_eq_nat_cmp (λ k f. f) (λ k f. f) es under.each under.sorted
 
     pub wids_named : AllNamed (path_of ns) wids
     wids_named k e = sym (wids_are k) ∙ e
@@ -113,7 +103,7 @@ module _ (t : Tables) (b : Contents) (v : StoresValid t b) where
     -- the set of their paths are the states
     pub paths_are_states : sorted_set path_cmp (items_of (path_of ns) wids) ≡ states_of b.stmts
     paths_are_states = items_make_set path_exact (path_of ns) one_path wids (states_of b.stmts) (set_is_ascending path_exact (stated_prefixes b.stmts)) wids_are
-        (λ w e. let n = some_is (number_of ns w) (sym (state_member w) ∙ e) in (n.0, names.numbered w n.0 n.1))
+        (λ w e. let n = some_of (number_of ns w) (sym (state_member w) ∙ e) in (n.0, names.numbered w n.0 n.1))
         (λ n w e. state_member w ∙ ap is_some (names.named n w e))
 
     -- a sum over the states is one over these paths
@@ -174,14 +164,14 @@ module _ (t : Tables) (b : Contents) (v : StoresValid t b) where
     tids = numbers_of es
 
     pub tids_are : (n : ℕ) → is_listed n tids ≡ is_some (ts.tuple n)
-    tids_are n = numbers_are tuple_codec numbers_in_order number_eq (λ k f. f) (λ k f. f) tuple_rows_are_one t ts.tuple h.tuples.tuples
-        (λ k e. let u = some_is (ts.tuple k) e in h.tuples.sized k u.0 u.1) es under n
+    tids_are n = numbers_are tuple_codec numbers_in_order is_eq_nat_cmp (λ k f. f) (λ k f. f) tuple_rows_are_one t ts.tuple h.tuples.tuples
+        (λ k e. let u = some_of (ts.tuple k) e in h.tuples.sized k u.0 u.1) es under n
 
     pub tids_named : AllNamed ts.tuple tids
     tids_named k e = sym (tids_are k) ∙ e
 
     pub tids_once : are_once tids ≡ true
-    tids_once = numbers_once tuple_codec numbers_in_order number_eq (λ k f. f) (λ k f. f) es under.each under.sorted
+    tids_once = numbers_once tuple_codec numbers_in_order is_eq_nat_cmp (λ k f. f) (λ k f. f) es under.each under.sorted
 
     tuple_member : (u : Tuple) → is_member tuple_cmp (tuples_of b.stmts) u ≡ is_some (ts.number u)
     tuple_member u = set_keeps_members tuple_exact (map (λ (x : Stmt). x.tuple) b.stmts) u ∙ member_of_map b.stmts u ∙ sym (h.tuples.stated u)
@@ -189,12 +179,12 @@ module _ (t : Tables) (b : Contents) (v : StoresValid t b) where
     -- the set of them are the tuples of the statements
     pub tuples_are : sorted_set tuple_cmp (items_of ts.tuple tids) ≡ tuples_of b.stmts
     tuples_are = items_make_set tuple_exact ts.tuple one_tuple tids (tuples_of b.stmts) (set_is_ascending tuple_exact (map (λ (x : Stmt). x.tuple) b.stmts)) tids_are
-        (λ u e. let n = some_is (ts.number u) (sym (tuple_member u) ∙ e) in (n.0, h.tuples.numbered u n.0 n.1))
+        (λ u e. let n = some_of (ts.number u) (sym (tuple_member u) ∙ e) in (n.0, h.tuples.numbered u n.0 n.1))
         (λ n u e. tuple_member u ∙ ap is_some (h.tuples.named n u e))
 
     pub tuples_told : sorted_set tuple_cmp (map (λ (e : ℕ × Tuple). e.1) es) ≡ tuples_of b.stmts
     tuples_told =
-        ap (sorted_set tuple_cmp) (sym (rows_are_items tuple_codec numbers_in_order number_eq (λ k f. f) (λ k f. f) tuple_rows_are_one t ts.tuple h.tuples.tuples es under)) ∙ tuples_are
+        ap (sorted_set tuple_cmp) (sym (rows_are_items tuple_codec numbers_in_order is_eq_nat_cmp (λ k f. f) (λ k f. f) tuple_rows_are_one t ts.tuple h.tuples.tuples es under)) ∙ tuples_are
 
     -- the rows are as many as the tuples
     pub tuples_as_many : length es ≡ length (tuples_of b.stmts)
@@ -248,6 +238,15 @@ pub record AreRead (t : Tables) (es : List (ℕ × ℕ)) (ds : List (ℕ × Tupl
   pub tuples : AreUnder tuple_codec t [] ds
   pub counts : CountsRows t es stmts rows
 
+-- they are read one after the other, and nothing changes in between
+pub read_in_turn : (t u v : Tables) (es lent : List (ℕ × ℕ)) (ds : List (ℕ × Tuple)) (stmts rows : ℕ) → u ≡ t → v ≡ u → lent ≡ es
+    → AreUnder depth_codec t [] es → AreUnder tuple_codec u [] ds → CountsRows v lent stmts rows → AreRead t es ds stmts rows
+read_in_turn t u v es lent ds stmts rows first second value worlds tuples counts = record {
+  worlds = worlds;
+  tuples = subst (λ (x : Tables). AreUnder tuple_codec x [] ds) first tuples;
+  counts = subst (λ xs. CountsRows t xs stmts rows) value (subst (λ (x : Tables). CountsRows x lent stmts rows) (second ∙ first) counts);
+}
+
 module _ (t : Tables) (es : List (ℕ × ℕ)) (ds : List (ℕ × Tuple)) (stmts rows : ℕ) (r : AreRead t es ds stmts rows) where
   pub sizes_told : TellsCounts t (record { worlds = length es; tuples = length ds; stmts = stmts; rows = rows })
   sizes_told b v =
@@ -282,9 +281,6 @@ module _ (t : Tables) (es : List (ℕ × ℕ)) (ds : List (ℕ × Tuple)) (stmts
         omega arith
 
 -- ---- what the tables have
-
-pub valid_in_grammar : (t : Tables) → StoresSome t → InGrammar t
-valid_in_grammar t s = stored_is_in_grammar t s.base s.stores.stored
 
 pub valid_has_tuples : (t : Tables) → StoresSome t → HaveTuples t
 valid_has_tuples t s = over_has_tuples s.base.stmts s.base.stmts s.stores.stored.names s.stores.stored.tuples t s.base s.stores.stored.stored

@@ -1,11 +1,11 @@
 -- The bases on the way to a valid one: of its first places of users, then of its first relations, then of its first statements.
 use Rattle.std.proofs.Common.{◌≡◌, ◌∙◌, ℕ, suc, ◌+◌, ◌<◌, ◌≤◌, Bool, true, false, not, ◌&&◌, ◌||◌, nat_le, nat_lt, List, [], ◌∷◌, ◌++◌, length, map, take, drop, get_or, append_assoc, Some, None, Ok, Err, if◌then◌else◌, refl, ap, sym, subst, arith}
 use Prim.Native.Nat.{zero}
-use Rattle.std.specs.List.{list_all, list_any, slice_get, find}
+use Rattle.std.specs.List.{list_all, list_any, slice_get}
 use Rattle.std.proofs.lemmas.Bool.Decides.{nat_tests}
 use Rattle.std.proofs.lemmas.List.Folds.{list_all-append}
 use Rattle.std.specs.Ordering.{is_eq, is_lt}
-use Rattle.std.proofs.lemmas.Bool.{and_parts, and_from, false≢true, le-leb, leb-true, not-true, not_from_false, not_from_true, or_parts, cond-false}
+use Rattle.std.proofs.lemmas.Bool.{and_parts, and_from, false≢true, le-leb, leb-true, not-true, not_from_false, not_from_true}
 use Rattle.std.proofs.lemmas.List.{append-nil, take-append-drop, take_more}
 use Rattle.std.proofs.lemmas.Option.{slice_get_read}
 use Rattle.bdb_base.specs.Bases.{Contents, IsCatalog, IsValid, are_distinct, belongs, is_plain, is_valid_relation, stands, user_names, with_statement}
@@ -30,11 +30,12 @@ use Rattle.bdb_base.specs.declared.kinds.What.{What}
 use Rattle.bdb_base.specs.declared.kinds.What.TheVariants.{Worlds, Tuples, Statements}
 use Rattle.bdb_base.proofs.ListLemmas.{filter_dropped_one, filter_kept_one, list_all_get}
 use Rattle.bdb_base.proofs.SetLemmas.{is_eq_itself}
+use Rattle.bdb_base.proofs.OptionLemmas.{none_is_some}
+use Rattle.bdb_base.proofs.FindLemmas.{find_none}
 use Rattle.bdb_canon.specs.Sizes.{counts_of}
 use Rattle.bdb_canon.specs.declared.sizes.Counts.{Counts}
 use Rattle.bdb_keep.specs.Seen.{Seen}
 use Rattle.bdb_keep.specs.Tables.{Tables}
-use Rattle.bdb_names.proofs.NameLemmas.{none_is_some}
 use Rattle.bdb_stored.specs.Writing.{AddsNext, MayFollow, with_front}
 use Rattle.bdb_update.specs.Calls.{IsAdding, StoresSized, clash_of, with_stmts, size_passed, with_one}
 use Rattle.bdb_update.specs.declared.answer.Added.TheVariants.{New, Already}
@@ -149,12 +150,6 @@ front_is_valid c stmts k v = part_before c (take k stmts) (drop k stmts) (subst 
 
 -- ---- one statement more
 
-no_find : {X : Type 0} (p : X → Bool) (xs : List X) → list_any p xs ≡ false → find p xs ≡ None
-no_find p [] e = refl
-no_find p (x ∷ xs) e =
-    let h = or_parts (p x) (list_any p xs) e in
-    cond-false (p x) (Some x) (find p xs) h.0 ∙ no_find p xs h.1
-
 module _ (b : Contents) (v : IsValid b.catalog b.stmts) (k : ℕ) (x : Stmt) (l : k < length b.stmts) (is : x ≡ get_or b.stmts k x) where
   abbrev front : ℕ → Contents
   front n = with_front b n
@@ -175,7 +170,7 @@ module _ (b : Contents) (v : IsValid b.catalog b.stmts) (k : ℕ) (x : Stmt) (l 
   no_clash_before =
       let keys = key_lengths b.catalog.rels in
       let test : Stmt → Bool = λ y. same_path y.path x.path && clash keys x.tuple x.sign y.tuple y.sign in
-      no_find test (take k b.stmts) (any_front test b.stmts k
+      find_none test (take k b.stmts) (any_front test b.stmts k
       (not-true (contradicted keys b.stmts x.path x.tuple x.sign) (list_all_get (λ y. not (contradicted keys b.stmts y.path y.tuple y.sign)) b.stmts k x v.stmts.no_clash stands_there)))
 
   pub has_room : size_passed (counts_of (with_one (front k) x)) ≡ None

@@ -1,17 +1,17 @@
 -- The items that numbers stand for, where no two numbers stand for one, and the set of them.
-use Rattle.std.proofs.Common.{◌≡◌, ◌∙◌, ℕ, suc, ◌+◌, Bool, true, false, not, ◌||◌, nat_eq, List, [], ◌∷◌, length, Option, Some, None, is_some, refl, ap, sym, subst, inl, inr, arith}
+use Rattle.std.proofs.Common.{◌≡◌, ◌∙◌, ℕ, suc, ◌+◌, true, false, not, nat_eq, List, [], ◌∷◌, length, Option, Some, None, is_some, refl, ap, sym, subst, inl, inr, arith}
 use Rattle.std.specs.Prelude.{sum_by}
 use Rattle.std.specs.List.{list_all}
 use Rattle.std.specs.declared.cmp.Ordering.{Ordering}
 use Rattle.std.specs.declared.cmp.Ordering.TheVariants.{Less, Equal, Greater}
 use Rattle.std.specs.Ordering.{is_eq, is_lt}
-use Rattle.std.proofs.lemmas.Bool.{and_parts, or_left, or_right, or_cases, false≢true, false_from_ne_true, not-true, eqb-true, eq-eqb}
+use Rattle.std.proofs.lemmas.Bool.{and_parts, or_left, or_right, or_cases, false≢true, false_from_ne_true, not-true, eqb-true, eq-eqb, or_parts}
 use Rattle.std.proofs.lemmas.List.Sums.{sum_by-cons}
 use Rattle.bdb_base.specs.SortedSet.{IsExactOrder, ascending, is_member, put_at, put_in, sorted_set}
 use Rattle.bdb_base.proofs.SetLemmas.{is_eq-Equal, is_eq_itself, absent_above, set_is_ascending, set_keeps_members, members_make_set}
-use Rattle.bdb_names.proofs.ListedLemmas.{both_ways_true}
+use Rattle.bdb_base.proofs.BoolLemmas.{same_tests}
 use Rattle.bdb_tables.specs.Names.{is_listed, are_once}
-use Rattle.bdb_val.proofs.HeldLemmas.{some_is}
+use Rattle.bdb_tables.proofs.UsedLemmas.{AllNamed, rest_named, first_named}
 use Rattle.bdb_stored.specs.Items.{with_item, items_of}
 
 -- ---- sums over sets
@@ -26,18 +26,14 @@ module _ {X : Type 0} {R : X → X → Ordering} (o : IsExactOrder R) where
   sum_put f x [] h = sum_by-cons f x []
   sum_put f x (y ∷ ys) h = go (R y x) refl (sum_put f x ys)
     where
-      neither : (a b : Bool) → (a || b) ≡ false → (a ≡ false) × (b ≡ false)
-      neither true b e = absurd (false≢true (sym e))
-      neither false b e = (refl, e)
-
       go : (r : Ordering) → R y x ≡ r → (is_member R ys x ≡ false → sum_by f (put_in R ys x) ≡ f x + sum_by f ys) → sum_by f (put_at (R y x) y ys x (put_in R ys x)) ≡ f x + sum_by f (y ∷ ys)
       go Less e more =
           let a = ap (λ q. sum_by f (put_at q y ys x (put_in R ys x))) e in
           let b = sum_by-cons f y (put_in R ys x) in
-          let c = more (neither (is_eq (R y x)) (is_member R ys x) h).1 in
+          let c = more (or_parts (is_eq (R y x)) (is_member R ys x) h).1 in
           let d = sum_by-cons f y ys in
           omega arith
-      go Equal e more = absurd (false≢true (sym (neither (is_eq (R y x)) (is_member R ys x) h).0 ∙ ap is_eq e))
+      go Equal e more = absurd (false≢true (sym (or_parts (is_eq (R y x)) (is_member R ys x) h).0 ∙ ap is_eq e))
       go Greater e more =
           let a = ap (λ q. sum_by f (put_at q y ys x (put_in R ys x))) e in
           a ∙ sum_by-cons f x (y ∷ ys)
@@ -63,24 +59,15 @@ sum_ones (x ∷ xs) = let a = sum_by-cons (λ y. 1) x xs in let b = sum_ones xs 
 
 -- ---- items by number
 
-abbrev pub AllNamed : {X : Type 0} → (ℕ → Option X) → List ℕ → Type 0
-AllNamed name ks = (k : ℕ) → is_listed k ks ≡ true → is_some (name k) ≡ true
-
 module _ {X : Type 0} (name : ℕ → Option X) where
-  pub rest_named : (k : ℕ) (ks : List ℕ) → AllNamed name (k ∷ ks) → AllNamed name ks
-  rest_named k ks h j e = h j (or_right (nat_eq j k) (is_listed j ks) e)
-
-  pub first_named : (k : ℕ) (ks : List ℕ) → AllNamed name (k ∷ ks) → (x : X) × (name k ≡ Some x)
-  first_named k ks h = some_is (name k) (h k (or_left (nat_eq k k) (is_listed k ks) (eq-eqb k k refl)))
-
   pub items_cons : (k : ℕ) (ks : List ℕ) (x : X) → name k ≡ Some x → items_of name (k ∷ ks) ≡ x ∷ items_of name ks
   items_cons k ks x e = ap (λ (z : Option X). with_item z (items_of name ks)) e
 
   pub items_many : (ks : List ℕ) → AllNamed name ks → length (items_of name ks) ≡ length ks
   items_many [] h = refl
   items_many (k ∷ ks) h =
-      let x = first_named k ks h in
-      ap (λ (zs : List X). length zs) (items_cons k ks x.0 x.1) ∙ ap suc (items_many ks (rest_named k ks h))
+      let x = first_named name k ks h in
+      ap (λ (zs : List X). length zs) (items_cons k ks x.0 x.1) ∙ ap suc (items_many ks (rest_named name k ks h))
 
 module _ {X : Type 0} {R : X → X → Ordering} (o : IsExactOrder R) (name : ℕ → Option X) (one : (j k : ℕ) (x : X) → name j ≡ Some x → name k ≡ Some x → j ≡ k) where
   later_member : (p : Option X) (xs : List X) (x : X) → is_member R xs x ≡ true → is_member R (with_item p xs) x ≡ true
@@ -127,6 +114,6 @@ module _ {X : Type 0} {R : X → X → Ordering} (o : IsExactOrder R) (name : �
   items_make_set ks set asc all there back =
       members_make_set o (sorted_set R (items_of name ks)) set (set_is_ascending o (items_of name ks)) asc (λ x.
       set_keeps_members o (items_of name ks) x
-      ∙ both_ways_true (is_member R (items_of name ks) x) (is_member R set x)
+      ∙ same_tests (is_member R (items_of name ks) x) (is_member R set x)
       (λ e. let m = member_is_item x ks e in back m.0 x m.2)
       (λ e. let n = there x e in item_is_member n.0 x n.1 ks (all n.0 ∙ ap is_some n.1)))

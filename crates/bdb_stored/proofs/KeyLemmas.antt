@@ -4,11 +4,12 @@ use Rattle.std.specs.List.{AllByRecursion, list_all}
 use Rattle.std.specs.declared.cmp.Ordering.{Ordering}
 use Rattle.std.specs.declared.cmp.Ordering.TheVariants.{Less, Equal, Greater}
 use Rattle.std.specs.Ordering.{is_eq, is_lt}
-use Rattle.std.proofs.lemmas.Bool.{and_parts, and_from, or_from, or_cases, false≢true, false_from_ne_true, cond-true, cond-false, eqb-true, eq-eqb}
+use Rattle.std.proofs.lemmas.Bool.{and_parts, and_from, or_from, or_cases, false≢true, cond-true, cond-false, eqb-true, eq-eqb}
 use Rattle.bdb_base.specs.SortedSet.{ascending}
+use Rattle.bdb_base.proofs.BoolLemmas.{same_tests}
+use Rattle.bdb_base.proofs.Numbers.{differs_turned}
 use Rattle.bdb_keep.specs.Tables.{Tables, bytes_cmp}
 use Rattle.bdb_key.specs.Grammar.{IsNum}
-use Rattle.bdb_names.proofs.ListedLemmas.{both_ways_true}
 use Rattle.bdb_tables.specs.Codec.{Codec, KeepsOrder, HasOneRow}
 use Rattle.bdb_tables.specs.Names.{is_listed, are_once}
 use Rattle.bdb_tables.specs.Spans.{AreUnder, IsUnder, entry_cmp}
@@ -39,7 +40,7 @@ module _ {Row : Type 0} (c : Codec ℕ Row) (order : KeepsOrder c) (test : (a b 
   pub numbers_are : HasOneRow c → (t : Tables) (f : ℕ → Option Row) → Gives c t f → ((n : ℕ) → is_some (f n) ≡ true → IsNum n) → (es : List (ℕ × Row)) → AreUnder c t [] es
       → (n : ℕ) → is_listed n (numbers es) ≡ is_some (f n)
   numbers_are one t f h small es under n =
-      both_ways_true (is_listed n (numbers es)) (is_some (f n))
+      same_tests (is_listed n (numbers es)) (is_some (f n))
       (λ e. sym (here (sized es under.each n e)) ∙ e)
       (λ e. here (small n e) ∙ e)
     where
@@ -81,16 +82,13 @@ module _ {Row : Type 0} (c : Codec ℕ Row) (order : KeepsOrder c) (test : (a b 
       differs Equal h = absurd (false≢true h)
       differs Greater h = refl
 
-      turned : (m n : ℕ) → nat_eq m n ≡ false → nat_eq n m ≡ false
-      turned m n h = false_from_ne_true (nat_eq n m) (λ t. false≢true (sym h ∙ eq-eqb m n (sym (eqb-true n m t))))
-
       later : (ds : List (ℕ × Row)) → AllByRecursion (IsUnder c []) ds → list_all (λ d. is_lt (entry_cmp c e d)) ds ≡ true → AllByRecursion (λ (d : ℕ × Row). row_in c order es d.0 ≡ Some d.1) ds
           → AllByRecursion (λ (d : ℕ × Row). row_in c order (e ∷ es) d.0 ≡ Some d.1) ds
       later [] b l f = tt
       later (d ∷ ds) b l f =
           let p = and_parts (is_lt (entry_cmp c e d)) (list_all (λ x. is_lt (entry_cmp c e x)) ds) l in
           let other : nat_eq e.0 d.0 ≡ false = sym (test e.0 d.0) ∙ sym (ap is_eq (order e.0 d.0 a.0.key b.0.key)) ∙ differs (bytes_cmp (c.key_bytes e.0) (c.key_bytes d.0)) p.0 in (
-            cond-false (is_eq (c.key_cmp d.0 e.0)) (Some e.1) (row_in c order es d.0) (test d.0 e.0 ∙ turned e.0 d.0 other) ∙ f.0,
+            cond-false (is_eq (c.key_cmp d.0 e.0)) (Some e.1) (row_in c order es d.0) (test d.0 e.0 ∙ differs_turned e.0 d.0 other) ∙ f.0,
             later ds b.1 p.1 f.1,
           )
 

@@ -11,11 +11,12 @@ use Rattle.bdb_base.specs.Queries.{user_numbers}
 use Rattle.bdb_base.specs.SortedSet.{is_member}
 use Rattle.bdb_base.specs.Segments.{is_suffix}
 use Rattle.bdb_base.specs.States.{deepest_suffix, states_of}
+use Rattle.bdb_base.proofs.OptionLemmas.{none_is_some, same_some}
 use Rattle.bdb_canon.specs.Canonical.{edges_at, edges_from, link_place, world_entry}
 use Rattle.bdb_canon.specs.declared.structure.CanonEdge.{CanonEdge}
 use Rattle.bdb_canon.specs.declared.structure.CanonWorld.{CanonWorld}
 use Rattle.bdb_keep.specs.Tables.{Tables}
-use Rattle.bdb_names.proofs.NameLemmas.{deep_number, edge_at, edge_found, edge_is, link_at, link_at_root, none_is_some, same_some}
+use Rattle.bdb_names.proofs.NameLemmas.{deep_number, edge_at, edge_found, edge_is, link_at, link_at_root}
 use Rattle.bdb_paths.specs.Places.{place_in}
 use Rattle.bdb_paths.proofs.SuffixLemmas.{deepest_same}
 use Rattle.bdb_tables.specs.Codec.{HasAt}

@@ -1,9 +1,9 @@
 -- Statements counted path by path, and the explicit rows of a path's world.
-use Rattle.std.proofs.Common.{◌≡◌, ◌∙◌, ℕ, ◌+◌, Bool, true, false, ◌||◌, nat_eq, cond, List, [], ◌∷◌, length, map, filter, refl, ap, sym, inl, inr, arith}
+use Rattle.std.proofs.Common.{◌≡◌, ◌∙◌, ℕ, ◌+◌, Bool, true, false, ◌||◌, cond, List, [], ◌∷◌, length, map, filter, refl, ap, sym, inl, inr, arith}
 use Rattle.std.specs.Prelude.{sum_by}
 use Rattle.std.specs.List.{list_any, list_all}
 use Rattle.std.specs.Ordering.{is_eq, is_lt, ordering_then}
-use Rattle.std.proofs.lemmas.Bool.{cases_Bool, and_parts, and_from, or_left, or_right, or_cases, false≢true, cond-true, eq-eqb}
+use Rattle.std.proofs.lemmas.Bool.{cases_Bool, and_parts, and_from, or_left, or_right, or_cases, false≢true, cond-true, or_parts}
 use Rattle.std.proofs.lemmas.List.{length-map}
 use Rattle.std.proofs.lemmas.List.Sums.{sum_by-cons}
 use Rattle.bdb_base.specs.Order.{path_cmp, sign_cmp, tuple_cmp, statement_cmp}
@@ -14,7 +14,7 @@ use Rattle.bdb_base.specs.Segments.{is_prefix}
 use Rattle.bdb_base.specs.SortedSet.{ascending, is_member}
 use Rattle.bdb_base.specs.States.{is_state, states_of}
 use Rattle.bdb_base.specs.WorldRows.{has_row, row_tuple_cmp, same_row, world_of}
-use Rattle.bdb_base.specs.Worlds.{IsConsistent, explicit, stated}
+use Rattle.bdb_base.specs.Worlds.{IsConsistent, explicit}
 use Rattle.bdb_base.specs.declared.kinds.Held.{Held}
 use Rattle.bdb_base.specs.declared.kinds.Sign.{Sign}
 use Rattle.bdb_base.specs.declared.kinds.Stmt.{Stmt}
@@ -22,7 +22,8 @@ use Rattle.bdb_base.specs.declared.tuple.Tuple.{Tuple}
 use Rattle.bdb_base.proofs.FirstLemmas.{explicit_statement, statement_explicit}
 use Rattle.bdb_base.proofs.SetLemmas.{is_eq-Equal, is_eq_itself, is_lt-Less, filter_keeps_order, members_make_set}
 use Rattle.bdb_base.proofs.WorldRowsLemmas.{rows_are_the_world, same_row_tells, same_row_from, tuples_stand_once}
-use Rattle.bdb_names.proofs.ListedLemmas.{both_ways_true}
+use Rattle.bdb_base.proofs.WorldLemmas.{is_prefix_itself, explicit_is_stated}
+use Rattle.bdb_base.proofs.BoolLemmas.{same_tests}
 use Rattle.bdb_paths.proofs.StateLemmas.{list_has_states}
 use Rattle.bdb_stored.specs.Counting.{explicit_rows}
 use Rattle.bdb_stored.proofs.ItemLemmas.{AreApart}
@@ -52,22 +53,18 @@ sum_added f g h (w ∷ ws) e =
     omega arith
 
 turned : (a b : List ℕ) → is_eq (path_cmp a b) ≡ same_path b a
-turned a b = is_eq_path_cmp a b ∙ both_ways_true (same_path a b) (same_path b a)
+turned a b = is_eq_path_cmp a b ∙ same_tests (same_path a b) (same_path b a)
     (λ e. (same_path-Decides b a).1 (sym ((same_path-Decides a b).0 e))) (λ e. (same_path-Decides a b).1 (sym ((same_path-Decides b a).0 e)))
 
 no_ones : (p : List ℕ) (ws : List (List ℕ)) → is_member path_cmp ws p ≡ false → sum_by (is_one p) ws ≡ 0
 unfolding is_one
 no_ones p [] h = refl
 no_ones p (w ∷ ws) h =
-    let k = neither (is_eq (path_cmp w p)) (is_member path_cmp ws p) h in
+    let k = or_parts (is_eq (path_cmp w p)) (is_member path_cmp ws p) h in
     let a = sum_by-cons (is_one p) w ws in
     let b : is_one p w ≡ 0 = ap (λ c. cond c 1 0) (sym (turned w p) ∙ k.0) in
     let c = no_ones p ws k.1 in
     omega arith
-  where
-    neither : (a b : Bool) → (a || b) ≡ false → (a ≡ false) × (b ≡ false)
-    neither true b e = absurd (false≢true (sym e))
-    neither false b e = (refl, e)
 
 one_one : (p : List ℕ) (ws : List (List ℕ)) → AreApart path_cmp ws → is_member path_cmp ws p ≡ true → sum_by (is_one p) ws ≡ 1
 unfolding is_one
@@ -110,10 +107,6 @@ sum_of_paths ws d (x ∷ xs) h =
 -- the statement that a row of a path says
 said : List ℕ → Held → Stmt
 said w h = record { path = w; sign = h.sign; tuple = h.tuple }
-
-explicit_is_stated : (keys : ℕ → ℕ) (stmts : List Stmt) (w : List ℕ) (t : Tuple) (s : Sign) → explicit stmts w t s ≡ true → stated keys stmts w t s ≡ true
-explicit_is_stated keys stmts [] t s e = e
-explicit_is_stated keys stmts (i ∷ w) t s e = or_left (explicit stmts (i ∷ w) t s) _ e
 
 abbrev is_explicit : Held → Bool
 is_explicit h = h.explicit
@@ -214,7 +207,7 @@ member_at_path (y ∷ ys) w x e p = elim (or_cases (is_eq (statement_cmp y x)) (
 
 listed_same : (xs : List Stmt) (x : Stmt) → is_member statement_cmp xs x ≡ list_any (same_statement x) xs
 listed_same [] x = refl
-listed_same (y ∷ ys) x = ap (λ b. b || is_member statement_cmp ys x) (is_eq_statement_cmp y x ∙ both_ways_true (same_statement y x) (same_statement x y)
+listed_same (y ∷ ys) x = ap (λ b. b || is_member statement_cmp ys x) (is_eq_statement_cmp y x ∙ same_tests (same_statement y x) (same_statement x y)
     (λ e. (same_statement-Decides x y).1 (sym ((same_statement-Decides y x).0 e))) (λ e. (same_statement-Decides y x).1 (sym ((same_statement-Decides x y).0 e))))
     ∙ ap (λ b. same_statement x y || b) (listed_same ys x)
 
@@ -227,7 +220,7 @@ explicit_are_statements keys stmts sorted c w =
     ∙ ap (λ (xs : List Stmt). length xs)
     (members_make_set statement_exact (map (said w) (filter is_explicit rows)) (at_path stmts w) (said_ascend w rows (tuples_stand_once keys stmts c w))
     (filter_keeps_order statement_exact (λ x. same_path x.path w) stmts sorted) (λ x.
-    both_ways_true (is_member statement_cmp (map (said w) (filter is_explicit rows)) x) (is_member statement_cmp (at_path stmts w) x)
+    same_tests (is_member statement_cmp (map (said w) (filter is_explicit rows)) x) (is_member statement_cmp (at_path stmts w) x)
     (λ e.
     let h = said_by w rows x e in
     let t = (rows_are_the_world keys stmts w h.0).0 h.1 in
@@ -249,10 +242,6 @@ explicit_are_statements keys stmts sorted c w =
 
 -- ---- the paths of statements are states
 
-prefix_itself : (w : List ℕ) → is_prefix w w ≡ true
-prefix_itself [] = refl
-prefix_itself (i ∷ w) = and_from (nat_eq i i) (is_prefix w w) (eq-eqb i i refl) (prefix_itself w)
-
 pub paths_are_members : (all xs : List Stmt) → ((p : Stmt → Bool) → list_any p xs ≡ true → list_any p all ≡ true) → list_all (λ x. is_member path_cmp (states_of all) x.path) xs ≡ true
 paths_are_members all [] k = refl
 paths_are_members all (x ∷ xs) k =
@@ -262,4 +251,4 @@ paths_are_members all (x ∷ xs) k =
   where
     state : (w : List ℕ) → x.path ≡ w → is_state all w ≡ true
     state [] e = refl
-    state (i ∷ w) e = k (λ y. is_prefix (i ∷ w) y.path) (or_left (is_prefix (i ∷ w) x.path) (list_any (λ y. is_prefix (i ∷ w) y.path) xs) (ap (is_prefix (i ∷ w)) e ∙ prefix_itself (i ∷ w)))
+    state (i ∷ w) e = k (λ y. is_prefix (i ∷ w) y.path) (or_left (is_prefix (i ∷ w) x.path) (list_any (λ y. is_prefix (i ∷ w) y.path) xs) (ap (is_prefix (i ∷ w)) e ∙ is_prefix_itself (i ∷ w)))

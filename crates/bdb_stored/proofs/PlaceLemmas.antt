@@ -12,10 +12,11 @@ use Rattle.bdb_base.specs.OrderLemmas.{path_exact}
 use Rattle.bdb_base.specs.SortedSet.{is_member}
 use Rattle.bdb_base.specs.States.{states_of, stated_prefixes}
 use Rattle.bdb_base.proofs.SetLemmas.{is_eq-Equal, is_eq_itself, set_is_ascending}
+use Rattle.bdb_base.proofs.BoolLemmas.{same_tests}
+use Rattle.bdb_base.proofs.OptionLemmas.{same_some}
 use Rattle.bdb_canon.proofs.RangeLemmas.{items_are_members}
 use Rattle.bdb_keep.specs.Tables.{Tables}
-use Rattle.bdb_names.proofs.ListedLemmas.{both_ways_true}
-use Rattle.bdb_names.proofs.NameLemmas.{number_is, same_number, same_some}
+use Rattle.bdb_names.proofs.NameLemmas.{number_is, same_number}
 use Rattle.bdb_paths.specs.Places.{place_in}
 use Rattle.bdb_paths.proofs.PlaceLemmas.{place_of_item}
 use Rattle.bdb_paths.proofs.StateLemmas.{list_has_states}
@@ -72,7 +73,7 @@ module _ (ns : Names) (a : AreNames ns) where
   same_test v w m e f =
       let n = number_is ns v e in
       ap (λ k. nat_eq k m) (number_named v n.0 n.1)
-      ∙ both_ways_true (nat_eq n.0 m) (is_eq (path_cmp v w))
+      ∙ same_tests (nat_eq n.0 m) (is_eq (path_cmp v w))
       (λ t. let same : v ≡ w = same_number ns a v w m (n.1 ∙ ap Some (eqb-true n.0 m t)) f in ap (λ x. is_eq (path_cmp x w)) same ∙ is_eq_itself path_exact w)
       (λ t. eq-eqb n.0 m (same_some n.0 m (sym n.1 ∙ ap (number_of ns) (path_exact.exact v w (is_eq-Equal (path_cmp v w) t)) ∙ f)))
 

@@ -15,13 +15,13 @@ use Rattle.bdb_base.specs.Order.{path_cmp}
 use Rattle.bdb_base.specs.OrderLemmas.{path_exact}
 use Rattle.bdb_base.specs.SortedSet.{ascending, is_member}
 use Rattle.bdb_base.specs.States.{HasPrefixes}
-use Rattle.bdb_base.proofs.ListLemmas.{list_any_fails}
+use Rattle.bdb_base.proofs.ListLemmas.{list_any_fails, list_all_each}
 use Rattle.bdb_base.proofs.SetLemmas.{is_eq-Equal, is_eq_itself, is_lt-Less, greater_from_less, members_make_set}
 use Rattle.bdb_base.proofs.WorldLemmas.{list_any_weaker, found_by}
 use Rattle.bdb_base.proofs.WorldRowsLemmas.{list_any-flat_map, list_all-flat_map}
 use Rattle.bdb_base.proofs.Numbers.{less, greater}
+use Rattle.bdb_base.proofs.BoolLemmas.{same_tests}
 use Rattle.bdb_names.proofs.Ends.{length_more, one_more}
-use Rattle.bdb_names.proofs.ListedLemmas.{both_ways_true}
 use Rattle.bdb_names.proofs.NamedLemmas.{cases_end}
 use Rattle.bdb_tables.specs.Names.{is_listed}
 use Rattle.bdb_stored.specs.Items.{with_item, items_of}
@@ -103,10 +103,6 @@ items_all {X} name q Q h (k ∷ ks) a =
     by None e t r = r
     by (Some x) e t r = and_from (Q x) (list_all Q (items_of name ks)) (h k x t e) r
 
-list_all_true : {X : Type 0} (q : X → Bool) → ((x : X) → q x ≡ true) → (xs : List X) → list_all q xs ≡ true
-list_all_true q h [] = refl
-list_all_true q h (x ∷ xs) = and_from (q x) (list_all q xs) (h x) (list_all_true q h xs)
-
 -- ---- children
 
 module _ (P : List ℕ → Bool) where
@@ -148,7 +144,7 @@ module _ (P : List ℕ → Bool) where
   child_before : (users : List ℕ) (v w x : List ℕ) (i : ℕ) → is_lt (path_cmp v w) ≡ true → child_of P v i ≡ Some x → list_all (λ y. is_lt (path_cmp x y)) (children_of P users w) ≡ true
   child_before users v w x i l e = items_all (child_of P w) (λ j. true) (λ y. is_lt (path_cmp x y)) (λ j y t f.
       ap (λ z. is_lt (path_cmp z y)) (child_is v i x e).1 ∙ ap (λ z. is_lt (path_cmp (v ++ i ∷ []) z)) (child_is w j y f).1
-      ∙ ap is_lt (one_more_cmp v w i j) ∙ ap (λ r. is_lt (ordering_then r (nat_cmp i j))) (is_lt-Less (path_cmp v w) l)) users (list_all_true (λ j. true) (λ j. refl) users)
+      ∙ ap is_lt (one_more_cmp v w i j) ∙ ap (λ r. is_lt (ordering_then r (nat_cmp i j))) (is_lt-Less (path_cmp v w) l)) users (list_all_each (λ j. true) (λ j. refl) users)
 
   all_children_ascend : (users : List ℕ) → ascending nat_cmp users ≡ true → (ws : List (List ℕ)) → ascending path_cmp ws ≡ true → ascending path_cmp (flat_map (children_of P users) ws) ≡ true
   all_children_ascend users a [] s = refl
@@ -157,7 +153,7 @@ module _ (P : List ℕ → Bool) where
       ascending_append path_cmp (children_of P users w) (flat_map (children_of P users) ws) (children_ascend w users a) (all_children_ascend users a ws k.1)
       (items_all (child_of P w) (λ j. true) (λ x. list_all (λ y. is_lt (path_cmp x y)) (flat_map (children_of P users) ws)) (λ i x t e.
       list_all-flat_map (λ y. is_lt (path_cmp w y)) (λ y. is_lt (path_cmp x y)) (children_of P users) (λ u l. child_before users w u x i l e) ws k.0)
-      users (list_all_true (λ j. true) (λ j. refl) users))
+      users (list_all_each (λ j. true) (λ j. refl) users))
 
   module _ (root : P [] ≡ true) (prefixes : HasPrefixes P) (users : List ℕ) (rise : ascending nat_cmp users ≡ true) (own : (w : List ℕ) (i : ℕ) → P (w ++ i ∷ []) ≡ true → is_listed i users ≡ true) (states : List (List ℕ)) (sorted : ascending path_cmp states ≡ true) (members : (w : List ℕ) → is_member path_cmp states w ≡ P w) where
     empty_first : (x w : List ℕ) (i : ℕ) → child_of P w i ≡ Some x → is_lt (path_cmp [] x) ≡ true
@@ -169,8 +165,8 @@ module _ (P : List ℕ → Bool) where
     grown_ascend : (ws : List (List ℕ)) → ascending path_cmp ws ≡ true → ascending path_cmp (grown_from P users ws) ≡ true
     grown_ascend ws s = and_from (list_all (λ y. is_lt (path_cmp [] y)) (flat_map (children_of P users) ws)) (ascending path_cmp (flat_map (children_of P users) ws))
         (list_all-flat_map (λ w. true) (λ y. is_lt (path_cmp [] y)) (children_of P users)
-        (λ w t. items_all (child_of P w) (λ j. true) (λ y. is_lt (path_cmp [] y)) (λ i x u e. empty_first x w i e) users (list_all_true (λ j. true) (λ j. refl) users))
-        ws (list_all_true (λ w. true) (λ w. refl) ws))
+        (λ w t. items_all (child_of P w) (λ j. true) (λ y. is_lt (path_cmp [] y)) (λ i x u e. empty_first x w i e) users (list_all_each (λ j. true) (λ j. refl) users))
+        ws (list_all_each (λ w. true) (λ w. refl) ws))
         (all_children_ascend users rise ws s)
 
     grown_members : (w : List ℕ) → is_member path_cmp (grown_from P users states) w ≡ is_member path_cmp states w
@@ -179,7 +175,7 @@ module _ (P : List ℕ → Bool) where
       | inr s ↦
           let v = s.0 in
           let i = s.1 in
-          both_ways_true (is_member path_cmp (grown_from P users states) w) (is_member path_cmp states w) (λ e. by_child w e) (λ e.
+          same_tests (is_member path_cmp (grown_from P users states) w) (is_member path_cmp states w) (λ e. by_child w e) (λ e.
           let named : P (v ++ i ∷ []) ≡ true = ap P (sym s.2) ∙ sym (members w) ∙ e in
           or_right (is_eq (path_cmp [] w)) (is_member path_cmp (flat_map (children_of P users) states) w)
           (list_any-flat_map (λ y. is_eq (path_cmp y w)) (children_of P users) states

@@ -2,7 +2,7 @@
 use Rattle.std.proofs.Common.{◌≡◌, ◌∙◌, ℕ, suc, ◌+◌, ◌<◌, ◌≤◌, Bool, true, false, ◌||◌, ◌&&◌, nat_eq, nat_lt, nat_le, List, [], ◌∷◌, length, map, filter, Option, is_some, refl, ap, sym, inl, inr, arith}
 use Prim.Native.Nat.{zero}
 use Rattle.std.specs.List.{AllByRecursion, list_all, slice_get}
-use Rattle.std.specs.Ordering.{is_eq, is_lt, nat_cmp}
+use Rattle.std.specs.Ordering.{is_lt, nat_cmp}
 use Rattle.std.specs.declared.cmp.Ordering.TheVariants.{Equal}
 use Rattle.std.proofs.lemmas.Bool.{cases_Bool, cases_lt, and_parts, and_from, or_left, or_right, or_cases, false≢true, cond-true, cond-false, eq-eqb, eqb-true, leb-true, ltb-true, lt-ltb}
 use Rattle.std.proofs.lemmas.Bool.Decides.{nat_tests}
@@ -14,12 +14,13 @@ use Rattle.bdb_base.specs.Queries.{live_numbers, numbers_from, user_numbers}
 use Rattle.bdb_base.specs.SortedSet.{IsExactOrder, ascending, is_member}
 use Rattle.bdb_base.specs.declared.kinds.UserSlot.{UserSlot}
 use Rattle.bdb_base.specs.declared.kinds.UserSlot.TheVariants.{Live, Gone}
+use Rattle.bdb_base.specs.OrderLemmas.{is_eq_nat_cmp}
 use Rattle.bdb_base.proofs.ListLemmas.{filter_dropped_one, filter_kept_one, length-filter_le}
 use Rattle.bdb_base.proofs.SetLemmas.{filter_keeps_order, members_make_set}
 use Rattle.bdb_base.proofs.UserLemmas.{numbers_are_live, user_above, user_within}
+use Rattle.bdb_base.proofs.BoolLemmas.{same_tests}
+use Rattle.bdb_base.proofs.Numbers.{less_number, eq_turned}
 use Rattle.bdb_keep.specs.Tables.{Tables}
-use Rattle.bdb_names.proofs.ListedLemmas.{both_ways_true}
-use Rattle.bdb_names.proofs.TurnedLemmas.{number_eq}
 use Rattle.bdb_tables.specs.InUse.{user_codec}
 use Rattle.bdb_tables.specs.InUseLaws.{numbers_in_order, slot_rows_are_one}
 use Rattle.bdb_tables.specs.Names.{is_listed}
@@ -38,14 +39,11 @@ nat_exact = record { total = nat_cmp_total; exact = λ m n e. same m n e }
     same : (m n : ℕ) → nat_cmp m n ≡ Equal → m ≡ n
     same m n e = grind (arith, nat_tests)
 
-less_is : (m n : ℕ) → m < n → is_lt (nat_cmp m n) ≡ true
-less_is m n l = grind (arith, nat_tests)
-
 -- ---- numbers of places, from one on
 
 above : (m n : ℕ) (us : List UserSlot) → m < n → list_all (λ k. is_lt (nat_cmp m k)) (numbers_from n us) ≡ true
 above m n [] l = refl
-above m n (u ∷ us) l = and_from (is_lt (nat_cmp m n)) (list_all (λ k. is_lt (nat_cmp m k)) (numbers_from (suc n) us)) (less_is m n l) (above m (suc n) us (omega arith))
+above m n (u ∷ us) l = and_from (is_lt (nat_cmp m n)) (list_all (λ k. is_lt (nat_cmp m k)) (numbers_from (suc n) us)) (less_number m n l) (above m (suc n) us (omega arith))
 
 ascend : (n : ℕ) (us : List UserSlot) → ascending nat_cmp (numbers_from n us) ≡ true
 ascend n [] = refl
@@ -112,10 +110,7 @@ few_numbers us =
 
 member_is_listed : (ks : List ℕ) (n : ℕ) → is_member nat_cmp ks n ≡ is_listed n ks
 member_is_listed [] n = refl
-member_is_listed (k ∷ ks) n = ap (λ b. b || is_member nat_cmp ks n) (turned k n) ∙ ap (λ b. nat_eq n k || b) (member_is_listed ks n)
-  where
-    turned : (a c : ℕ) → is_eq (nat_cmp a c) ≡ nat_eq c a
-    turned a c = grind (arith, nat_tests)
+member_is_listed (k ∷ ks) n = ap (λ b. b || is_member nat_cmp ks n) (eq_turned k n) ∙ ap (λ b. nat_eq n k || b) (member_is_listed ks n)
 
 abbrev keys : List (ℕ × UserSlot) → List ℕ
 keys es = map (λ (e : ℕ × UserSlot). e.0) es
@@ -164,7 +159,7 @@ place_there us (suc n) = elim (cases_lt n (length us)) [
     none m k l = grind (arith, nat_tests)
 
 place_listed : (us : List UserSlot) (n : ℕ) → is_place us n ≡ is_listed n (numbers_from 1 us)
-place_listed us n = both_ways_true (is_place us n) (is_listed n (numbers_from 1 us))
+place_listed us n = same_tests (is_place us n) (is_listed n (numbers_from 1 us))
     (λ e. let k = and_parts (nat_lt 0 n) (nat_le n (length us)) e in
     let a = ltb-true 0 n k.0 in
     let b = leb-true n (length us) k.1 in
@@ -179,7 +174,7 @@ keys_told : (t : Tables) (es : List (ℕ × UserSlot)) → AreUnder user_codec t
 keys_told t es under b v =
     let us = b.catalog.users in
     let few = leb-true (length us) most_users v.valid.catalog.few_users in
-    let are = numbers_are user_codec numbers_in_order number_eq (λ k f. f) (λ k f. f) slot_rows_are_one t (slot_of us) v.stored.stored.users
+    let are = numbers_are user_codec numbers_in_order is_eq_nat_cmp (λ k f. f) (λ k f. f) slot_rows_are_one t (slot_of us) v.stored.stored.users
     (λ n e. let k = and_parts (nat_lt 0 n) (nat_le n (length us)) (sym (place_there us n) ∙ e) in let l = leb-true n (length us) k.1 in omega arith) es under in
     members_make_set nat_exact (keys es) (numbers_from 1 us) (keys_ascend es under.each under.sorted) (ascend 1 us) (λ n.
     member_is_listed (keys es) n ∙ are n ∙ place_there us n ∙ place_listed us n ∙ sym (member_is_listed (numbers_from 1 us) n))
@@ -200,7 +195,7 @@ items_at f n (u ∷ us) at =
 slots_told : (t : Tables) (es : List (ℕ × UserSlot)) → AreUnder user_codec t [] es → (b : Contents) → StoresValid t b → slots es ≡ b.catalog.users
 slots_told t es under b v =
     let us = b.catalog.users in
-    sym (rows_are_items user_codec numbers_in_order number_eq (λ k f. f) (λ k f. f) slot_rows_are_one t (slot_of us) v.stored.stored.users es under)
+    sym (rows_are_items user_codec numbers_in_order is_eq_nat_cmp (λ k f. f) (λ k f. f) slot_rows_are_one t (slot_of us) v.stored.stored.users es under)
     ∙ ap (items_of (slot_of us)) (keys_told t es under b v) ∙ items_at (slot_of us) 1 us (λ k. ap (slot_of us) (next k))
   where
     next : (k : ℕ) → 1 + k ≡ suc k

@@ -5,8 +5,8 @@ ghost use Rattle.bdb_keep.specs.Tables.{LieInTables};
 ghost use Rattle.bdb_stored.specs.Writing.{IsCleared};
 ghost use Rattle.bdb_update.specs.StoredLaws.{HaveNoRows};
 
-use bdb_keep::{KeepError, Keeper};
-use bdb_tables::TabError;
+use bdb_keep::Keeper;
+use bdb_tables::{TabError, table_error};
 use std::alloc::Global;
 
 /// How many tables a keeper has.
@@ -44,23 +44,13 @@ fn clear_table<K: Keeper>(alloc: Global, keeper: &mut K, tab: u8) -> Result<(), 
         match keeper.next(tab, &[], &mut key, &mut row) {
             Ok(true) => {}
             Ok(false) => return Ok(()),
-            Err(error) => return Err(told(error)),
+            Err(error) => return Err(table_error(error)),
         }
         match keeper.remove(tab, &key) {
             Ok(_) => {}
-            Err(error) => return Err(told(error)),
+            Err(error) => return Err(table_error(error)),
         }
     }
     keeper.undo();
     Err(TabError::Memory)
-}
-
-// A keeper's error as a table's.
-fn told(error: KeepError) -> TabError
-    ensures { result ≡ TabError.Fault → error ≡ KeepError.Fault }
-{
-    match error {
-        KeepError::Fault => TabError::Fault,
-        KeepError::Memory => TabError::Memory,
-    }
 }

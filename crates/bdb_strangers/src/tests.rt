@@ -4,9 +4,11 @@ ghost use Rattle.std.specs.Prelude.{◌≡◌, false, IfOk};
 mod changes;
 
 use crate::tests::changes::carry_out;
-use bdb_base::{List, Txt};
+use bdb_base::List;
 use bdb_io::{MemSink, MemSource};
-use bdb_keep::{Keeper, MemKeeper, QuietKeeper};
+use bdb_keep::Keeper;
+use bdb_memory::{MemKeeper, QuietKeeper};
+use bdb_samples::words_of;
 use bdb_top::run;
 use std::alloc::Global;
 use std::test::Fail;
@@ -30,15 +32,6 @@ const ROOM: usize = 2_000_000;
 /// A sink that never fails.
 fn sink(alloc: Global) -> Result<MemSink, Fail> {
     Ok(MemSink::new(alloc, List::new(alloc), 0, ROOM)?)
-}
-
-/// The words of a line.
-fn words_of(alloc: Global, line: &str) -> Result<List<Txt>, Fail> {
-    let mut words = List::new(alloc);
-    for word in line.split_whitespace() {
-        words.push(Txt::try_new(alloc, word)?)?;
-    }
-    Ok(words)
 }
 
 /// The status of the words of a line over a script and a keeper, and what is written.

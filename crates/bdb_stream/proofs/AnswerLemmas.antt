@@ -1,5 +1,5 @@
 -- How a session answered one event.
-use Rattle.std.proofs.Common.{◌≡◌, ℕ, ◌+◌, ◌≤◌, Bool, List, [], ◌∷◌, take, length, sym, subst, arith, Option, Result, Ok, Err}
+use Rattle.std.proofs.Common.{◌≡◌, ℕ, ◌+◌, ◌≤◌, Bool, List, [], ◌∷◌, take, length, sym, subst, arith, Option, Result, Ok, Err, IfOk, OnOk, OnErr, ◌∙◌}
 use Rattle.std.specs.Io.KnownBytes.{Appends}
 use Rattle.bdb_base.specs.Causes.{Rises}
 use Rattle.bdb_keep.specs.Seen.{Seen, Unchanged}
@@ -11,22 +11,25 @@ use Rattle.bdb_session.specs.Runs.{event_of}
 use Rattle.bdb_session.specs.Undoing.{accepts, counts, next_state, reply_of}
 use Rattle.bdb_session.specs.declared.event.Event.{Event}
 use Rattle.bdb_session.specs.declared.event.Event.TheVariants as event
+use Rattle.bdb_session.specs.declared.reply.Reply.{Reply}
+use Rattle.bdb_session.specs.declared.stop.StopError.{StopError}
 use Rattle.bdb_stream.specs.Carried.{Carried, by_session}
 use Rattle.bdb_stream.specs.Handled.{IsAnswer}
 use Rattle.bdb_stream.specs.Handling.{IsAt, IsAtSome}
 use Rattle.bdb_stream.specs.declared.error.RunError.{RunError}
-use Rattle.bdb_stream.specs.declared.error.RunError.TheVariants.{Sink}
+use Rattle.bdb_stream.specs.Told.{TellsReply}
+use Rattle.bdb_stream.specs.declared.error.RunError.TheVariants.{Source, Sink, Keeper, Memory, Large}
 use Rattle.bdb_undo.specs.Timelines.{Timeline}
 
 -- nothing was carried out
-pub carries_none : (s : Timeline) (before now : Known) (first last : Seen) → now ≡ before → Unchanged first last → Remembers first.kept before s → Carried s [] now first last
+carries_none : (s : Timeline) (before now : Known) (first last : Seen) → now ≡ before → Unchanged first last → Remembers first.kept before s → Carried s [] now first last
 carries_none s before now first last is same a = record {
   agrees = subst (λ (t : Tables). Remembers t now s) (sym same.kept) (subst (λ (k : Known). Remembers first.kept k s) (sym is) a);
   commits = λ _. let e = same.commits in omega arith;
 }
 
 -- one event was carried out
-pub carries_one : (s : Timeline) (e : Event) (now : Known) (first last : Seen)
+carries_one : (s : Timeline) (e : Event) (now : Known) (first last : Seen)
     → Remembers last.kept now (next_state s e) → Rises (counts s e) first.commits last.commits → Carried s (e ∷ []) now first last
 carries_one s e now first last agrees commits = record {
   agrees = agrees;
@@ -37,7 +40,7 @@ carries_one s e now first last agrees commits = record {
     and_none n = omega arith
 
 -- and the reply was written, or a part of it
-pub answers_one : (s : Timeline) (e : Event) (accepted : Bool) (text : List ℕ) (now : Known) (first last : Seen) (old new : Option (List ℕ)) → Carried s (e ∷ []) now first last
+answers_one : (s : Timeline) (e : Event) (accepted : Bool) (text : List ℕ) (now : Known) (first last : Seen) (old new : Option (List ℕ)) → Carried s (e ∷ []) now first last
     → accepted ≡ accepts s e → text ≡ reply_of s e → Appends old new text → IsAnswer by_session s e now first last old new (Ok accepted)
 answers_one s e accepted text now first last old new carried fine is written = record {
   carried = carried;
@@ -46,9 +49,39 @@ answers_one s e accepted text now first last old new carried fine is written = r
   told_fine = fine;
 }
 
-pub answers_part : (s : Timeline) (e : Event) (text : List ℕ) (now : Known) (first last : Seen) (old new : Option (List ℕ)) → Carried s (e ∷ []) now first last
+answers_part : (s : Timeline) (e : Event) (text : List ℕ) (now : Known) (first last : Seen) (old new : Option (List ℕ)) → Carried s (e ∷ []) now first last
     → text ≡ reply_of s e → (k : ℕ) × (k ≤ length text) × Appends old new (take k text) → IsAnswer by_session s e now first last old new (Err Sink)
 answers_part s e text now first last old new carried is written = (carried, (written.0, subst (λ (x : List ℕ). Appends old new (take written.0 x)) is written.2))
+
+-- what comes of an event, once what the session answered is written
+pub answers_by : (s : Timeline) (e : Event) (reply : Result Reply StopError) (before now : Known) (first last : Seen) (old new : Option (List ℕ)) (result : Result Bool RunError)
+    → Remembers first.kept before s → OnOk reply (Remembers last.kept now (next_state s e)) → OnOk reply (Rises (counts s e) first.commits last.commits)
+    → IfOk reply (λ r. r.accepted ≡ accepts s e) → IfOk reply (λ r. r.text ≡ reply_of s e) → OnErr reply (now ≡ before) → OnErr reply (Unchanged first last)
+    → TellsReply reply old new result → IsAnswer by_session s e now first last old new result
+answers_by s e (Ok r) before now first last old new (Ok fine) a next commits accepted text same err told =
+    answers_one s e fine r.text now first last old new (carries_one s e now first last next commits) (told.0 ∙ accepted) text told.1
+answers_by s e (Ok r) before now first last old new (Err Sink) a next commits accepted text same err told =
+    answers_part s e r.text now first last old new (carries_one s e now first last next commits) text told
+answers_by s e (Ok r) before now first last old new (Err Source) a next commits accepted text same err told =
+    absurd told
+answers_by s e (Ok r) before now first last old new (Err Keeper) a next commits accepted text same err told =
+    absurd told
+answers_by s e (Ok r) before now first last old new (Err Memory) a next commits accepted text same err told =
+    absurd told
+answers_by s e (Ok r) before now first last old new (Err Large) a next commits accepted text same err told =
+    absurd told
+answers_by s e (Err stop) before now first last old new (Ok fine) a next commits accepted text same err told =
+    absurd told
+answers_by s e (Err stop) before now first last old new (Err Sink) a next commits accepted text same err told =
+    absurd told
+answers_by s e (Err stop) before now first last old new (Err Source) a next commits accepted text same err told =
+    (carries_none s before now first last same err a, told)
+answers_by s e (Err stop) before now first last old new (Err Keeper) a next commits accepted text same err told =
+    (carries_none s before now first last same err a, told)
+answers_by s e (Err stop) before now first last old new (Err Memory) a next commits accepted text same err told =
+    (carries_none s before now first last same err a, told)
+answers_by s e (Err stop) before now first last old new (Err Large) a next commits accepted text same err told =
+    (carries_none s before now first last same err a, told)
 
 -- a session that remembers a timeline with tables is at it, and one that remembers some is at some
 pub at_timeline : (t : Tables) (k : Known) (s : Timeline) → Remembers t k s → IsAt by_session t k s

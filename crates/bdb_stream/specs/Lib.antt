@@ -4,3 +4,4 @@ pub mod Handled
 pub mod Handling
 pub mod Reads
 pub mod Streams
+pub mod Told

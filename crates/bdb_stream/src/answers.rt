@@ -1,7 +1,7 @@
 // How a session handles the pieces of a script.
-ghost use Rattle.std.specs.Prelude.{◌<◌, ◌≤◌, ◌+◌, ℕ, IfSome, OnOk, OnErr, IsErrOf, length};
+ghost use Rattle.std.specs.Prelude.{◌<◌, ◌≤◌, ◌+◌, IfSome, OnOk, OnErr, IsErrOf, length};
 ghost use Rattle.std.specs.Io.KnownBytes.{IsAtEnd};
-ghost use Rattle.bdb_base.specs.Causes.{Rose, Rises, RisesOver, HasCause};
+ghost use Rattle.bdb_base.specs.Causes.{Rose, Rises, RisesOver, RisesWithin, HasCause};
 ghost use Rattle.bdb_base.specs.Limits.{longest_script};
 ghost use Rattle.bdb_io.specs.Failure.{failed};
 ghost use Rattle.bdb_io.specs.Pieces.{WritesPiece};
@@ -12,6 +12,7 @@ ghost use Rattle.bdb_undo.specs.Timelines.{Timeline};
 ghost use Rattle.bdb_stream.specs.Carried.{by_session, session_in_order};
 ghost use Rattle.bdb_stream.specs.Handled.{IsAnswer};
 ghost use Rattle.bdb_stream.specs.Streams.{Streams};
+ghost use Rattle.bdb_stream.specs.Told.{TellsReply};
 
 use crate::error::RunError;
 use crate::handler::Handler;
@@ -19,7 +20,7 @@ use crate::stream::carry_out;
 use bdb_io::{Failed, Sink, Source};
 use bdb_keep::Keeper;
 use bdb_lex::{Piece, Rest};
-use bdb_session::{Event, Session, StopError};
+use bdb_session::{Event, Reply, Session, StopError};
 use std::alloc::Global;
 
 /// Carries out the script that a source gives, each command as soon as the bytes are read in which it ends. Ok tells
@@ -50,12 +51,12 @@ pub fn carry_out_script<S: Source, O: Sink, K: Keeper>(
         (S.given script.new) }
     ensures many { IsErrOf result RunError.Large → IfSome (S.left script.old)
         (λ text. longest_script < length text) }
-    ensures within { (IsErrOf result RunError.Large → ⊥) → (n : ℕ) × (n ≤ longest_script)
-        × Rises n (S.given script.old) (S.given script.new) }
+    ensures within { (IsErrOf result RunError.Large → ⊥)
+        → RisesWithin longest_script (S.given script.old) (S.given script.new) }
     ensures one_more { IsErrOf result RunError.Large
         → Rises (longest_script + 1) (S.given script.old) (S.given script.new) }
-    ensures source_counts { (S.faults script.old ≤ S.faults script.new)
-        × (S.given script.old ≤ S.given script.new) }
+    ensures source_faults { S.faults script.old ≤ S.faults script.new }
+    ensures source_given { S.given script.old ≤ S.given script.new }
     ensures sink_count { O.faults out.old ≤ O.faults out.new }
     ensures keeper_counts { NeverFall (K.seen keeper.old) (K.seen keeper.new) }
 {
@@ -126,14 +127,10 @@ fn answer<O: Sink, K: Keeper>(
     ensures others { OnErr result ((IsErrOf result RunError.Source → ⊥)
         × (IsErrOf result RunError.Large → ⊥)) }
 {
-    let reply = match session.answer(keeper, event) {
-        Ok(reply) => reply,
-        Err(StopError::Fault) => return Err(RunError::Keeper),
-        Err(StopError::Memory) => return Err(RunError::Memory),
-    };
-    match write_reply(out, reply.text.as_slice()) {
-        Ok(()) => Ok(reply.accepted),
-        Err(_) => Err(RunError::Sink),
+    let reply = session.answer(keeper, event);
+    match tell(out, reply) {
+        Ok(accepted) => Ok(accepted),
+        Err(stop) => Err(stop),
     }
 }
 
@@ -159,7 +156,23 @@ fn answer_command<O: Sink, K: Keeper>(
     ensures others { OnErr result ((IsErrOf result RunError.Source → ⊥)
         × (IsErrOf result RunError.Large → ⊥)) }
 {
-    let reply = match session.apply(keeper, bytes) {
+    let reply = session.apply(keeper, bytes);
+    match tell(out, reply) {
+        Ok(accepted) => Ok(accepted),
+        Err(stop) => Err(stop),
+    }
+}
+
+/// Writes what a session answered, and tells whether that was accepted.
+fn tell<O: Sink>(out: &mut O, reply: Result<Reply, StopError>) -> Result<bool, RunError>
+    ensures told { TellsReply reply (O.written out.old) (O.written out.new) result }
+    ensures keeper { IsErrOf result RunError.Keeper → IsErrOf reply StopError.Fault }
+    ensures later { O.faults out.old ≤ O.faults out.new }
+    ensures sink { IsErrOf result RunError.Sink → Rose (O.faults out.old) (O.faults out.new) }
+    ensures others { OnErr result ((IsErrOf result RunError.Source → ⊥)
+        × (IsErrOf result RunError.Large → ⊥)) }
+{
+    let reply = match reply {
         Ok(reply) => reply,
         Err(StopError::Fault) => return Err(RunError::Keeper),
         Err(StopError::Memory) => return Err(RunError::Memory),

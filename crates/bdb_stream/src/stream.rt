@@ -1,7 +1,7 @@
 // Carrying out a stream while it is read.
-ghost use Rattle.std.specs.Prelude.{◌≡◌, ◌<◌, ◌≤◌, ◌+◌, ℕ, true, false, IfSome, OnOk, OnErr, IsErrOf, length, map};
+ghost use Rattle.std.specs.Prelude.{◌≡◌, ◌<◌, ◌≤◌, ◌+◌, true, false, IfSome, OnOk, OnErr, IsErrOf, length, map};
 ghost use Rattle.std.specs.Io.KnownBytes.{IsAtEnd};
-ghost use Rattle.bdb_base.specs.Causes.{Rose, Rises, RisesOver, HasCause};
+ghost use Rattle.bdb_base.specs.Causes.{Rose, Rises, RisesOver, RisesWithin, HasCause};
 ghost use Rattle.bdb_base.specs.Limits.{longest_script};
 ghost use Rattle.bdb_keep.specs.Seen.{IsStill, NeverFall};
 ghost use Rattle.bdb_lex.specs.Cut.{ready, pieces_from, state_after};
@@ -51,12 +51,12 @@ pub fn carry_out<S: Source, H: Handler, K: Keeper, O: Sink>(
         (S.given script.new) }
     ensures many { IsErrOf result RunError.Large → IfSome (S.left script.old)
         (λ text. longest_script < length text) }
-    ensures within { (IsErrOf result RunError.Large → ⊥) → (n : ℕ) × (n ≤ longest_script)
-        × Rises n (S.given script.old) (S.given script.new) }
+    ensures within { (IsErrOf result RunError.Large → ⊥)
+        → RisesWithin longest_script (S.given script.old) (S.given script.new) }
     ensures one_more { IsErrOf result RunError.Large
         → Rises (longest_script + 1) (S.given script.old) (S.given script.new) }
-    ensures source_counts { (S.faults script.old ≤ S.faults script.new)
-        × (S.given script.old ≤ S.given script.new) }
+    ensures source_faults { S.faults script.old ≤ S.faults script.new }
+    ensures source_given { S.given script.old ≤ S.given script.new }
     ensures sink_count { O.faults out.old ≤ O.faults out.new }
     ensures keeper_counts { NeverFall (K.seen keeper.old) (K.seen keeper.new) }
 {

@@ -8,7 +8,6 @@ use Rattle.std.specs.FinMap as tables
 use Rattle.std.specs.FinMap.{get-from_entries}
 use Rattle.std.proofs.lemmas.Cmp.{nat_list_cmp_total}
 use Rattle.std.proofs.lemmas.Bool.{cases_Bool, cases_lt, false≢true, eqb-true, eq-eqb, cond-true, cond-false, leb-true}
-use Rattle.std.proofs.lemmas.Bool.Decides.{nat_tests}
 use Rattle.std.proofs.lemmas.Option.{slice_get_past}
 use Rattle.bdb_base.specs.Bases.{Contents, is_user}
 use Rattle.bdb_base.specs.Limits.{most_users, most_relations}
@@ -16,6 +15,7 @@ use Rattle.bdb_base.specs.declared.kinds.RelDef.{RelDef}
 use Rattle.bdb_base.specs.declared.kinds.Stmt.{Stmt}
 use Rattle.bdb_base.specs.declared.kinds.UserSlot.{UserSlot}
 use Rattle.bdb_base.specs.declared.kinds.UserSlot.TheVariants.{Gone}
+use Rattle.bdb_base.specs.OrderLemmas.{is_eq_nat_cmp}
 use Rattle.bdb_base.proofs.UserLemmas.{user_above, user_within}
 use Rattle.bdb_keep.specs.Tables.{Tables}
 use Rattle.bdb_key.specs.Grammar.{IsNum}
@@ -58,21 +58,18 @@ not_end [] x (suc n) h = refl
 not_end (y ∷ xs) x zero h = refl
 not_end (y ∷ xs) x (suc n) h = not_end xs x n (λ e. h (ap suc e))
 
-same_number : (a b : ℕ) → is_eq (nat_cmp a b) ≡ nat_eq a b
-same_number a b = grind (arith, nat_tests)
-
 rels_more : (rels : List RelDef) (def : RelDef) (rel k : ℕ) → rel ≡ length rels → cond (is_eq (nat_cmp k rel)) (Some def) (slice_get rels k) ≡ slice_get (rels ++ def ∷ []) k
 rels_more rels def rel k s = elim (cases_Bool (nat_eq k rel)) [
-  | inl e ↦ cond-true (is_eq (nat_cmp k rel)) (Some def) (slice_get rels k) (same_number k rel ∙ e) ∙ sym (ap (slice_get (rels ++ def ∷ [])) (eqb-true k rel e ∙ s) ∙ at_end rels def)
-  | inr e ↦ cond-false (is_eq (nat_cmp k rel)) (Some def) (slice_get rels k) (same_number k rel ∙ e) ∙ not_end rels def k (λ z. false≢true (sym e ∙ eq-eqb k rel (z ∙ sym s)))
+  | inl e ↦ cond-true (is_eq (nat_cmp k rel)) (Some def) (slice_get rels k) (is_eq_nat_cmp k rel ∙ e) ∙ sym (ap (slice_get (rels ++ def ∷ [])) (eqb-true k rel e ∙ s) ∙ at_end rels def)
+  | inr e ↦ cond-false (is_eq (nat_cmp k rel)) (Some def) (slice_get rels k) (is_eq_nat_cmp k rel ∙ e) ∙ not_end rels def k (λ z. false≢true (sym e ∙ eq-eqb k rel (z ∙ sym s)))
 ]
 
 -- a list with a slot at one place, and with those of another list at all others
 slots_changed : (users after : List UserSlot) (slot : UserSlot) (uid at k : ℕ) → uid ≡ suc at → slice_get after at ≡ Some slot → ((n : ℕ) → (n ≡ at → ⊥) → slice_get users n ≡ slice_get after n)
     → cond (is_eq (nat_cmp k uid)) (Some slot) (slot_of users k) ≡ slot_of after k
 slots_changed users after slot uid at k s here else = elim (cases_Bool (nat_eq k uid)) [
-  | inl e ↦ cond-true (is_eq (nat_cmp k uid)) (Some slot) (slot_of users k) (same_number k uid ∙ e) ∙ sym (ap (slot_of after) (eqb-true k uid e ∙ s) ∙ here)
-  | inr e ↦ cond-false (is_eq (nat_cmp k uid)) (Some slot) (slot_of users k) (same_number k uid ∙ e) ∙ old k (λ z. false≢true (sym e ∙ eq-eqb k uid (z ∙ sym s)))
+  | inl e ↦ cond-true (is_eq (nat_cmp k uid)) (Some slot) (slot_of users k) (is_eq_nat_cmp k uid ∙ e) ∙ sym (ap (slot_of after) (eqb-true k uid e ∙ s) ∙ here)
+  | inr e ↦ cond-false (is_eq (nat_cmp k uid)) (Some slot) (slot_of users k) (is_eq_nat_cmp k uid ∙ e) ∙ old k (λ z. false≢true (sym e ∙ eq-eqb k uid (z ∙ sym s)))
 ]
   where
     old : (k : ℕ) → (k ≡ suc at → ⊥) → slot_of users k ≡ slot_of after k

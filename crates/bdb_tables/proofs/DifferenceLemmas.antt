@@ -5,28 +5,23 @@ use Rattle.std.specs.List.{AllByRecursion, list_any}
 use Rattle.std.specs.Option.{option_map}
 use Rattle.std.specs.Ordering.{eq_by_cmp, is_eq}
 use Rattle.std.specs.FinMap as tables
-use Rattle.std.proofs.lemmas.Bool.{cases_Bool, and_parts, and_from, false≢true, false_from_ne_true}
+use Rattle.std.proofs.lemmas.Bool.{cases_Bool, and_parts, and_from, false≢true, false_from_ne_true, not-true}
 use Rattle.std.proofs.lemmas.List.Folds.{list_any-append}
 use Rattle.bdb_base.specs.Bases.{are_distinct}
 use Rattle.bdb_base.specs.Same.{same_text}
-use Rattle.bdb_base.specs.SameLemmas.{same_text-Decides}
+use Rattle.bdb_base.proofs.AllLemmas.{all_append}
+use Rattle.bdb_base.proofs.SegmentLemmas.{same_text_is, same_text_itself}
 use Rattle.bdb_key.proofs.Forms.{tied}
 use Rattle.bdb_keep.specs.Tables.{Tables, bytes_cmp}
+use Rattle.bdb_keep.proofs.RowsLemmas.{same_place}
 use Rattle.bdb_tables.specs.Codec.{Codec, place}
 use Rattle.bdb_tables.specs.Differences.{AreDifferences, AreReal, DifferencesAdd, DifferencesAreCounted}
 use Rattle.bdb_tables.specs.Writes.{with_change, with_changes}
-use Rattle.bdb_tables.proofs.Held.{same_place}
 use Rattle.bdb_tables.proofs.WriteLemmas.{get_after_change}
 
 -- a place is among places
 abbrev pub is_among : List ℕ → List (List ℕ) → Bool
 is_among p ps = list_any (same_text p) ps
-
-same_is : (p q : List ℕ) → same_text p q ≡ true → p ≡ q
-same_is p q e = (same_text-Decides p q).0 e
-
-same_itself : (p : List ℕ) → same_text p p ≡ true
-same_itself p = (same_text-Decides p p).1 refl
 
 pub false_parts : (a b : Bool) → a || b ≡ false → (a ≡ false) × (b ≡ false)
 false_parts true b e = absurd cc
@@ -35,15 +30,11 @@ false_parts false b e = (refl, e)
 pub or_false : (a b : Bool) → a ≡ false → b ≡ false → a || b ≡ false
 or_false a b e f = ap (λ x. x || b) e ∙ f
 
-not_true : (a : Bool) → not a ≡ true → a ≡ false
-not_true true e = absurd cc
-not_true false e = refl
-
 -- ---- lists of places
 
 members : (qs : List (List ℕ)) → AllByRecursion (λ q. is_among q qs ≡ true) qs
 members [] = tt
-members (q ∷ qs) = (ap (λ b. b || is_among q qs) (same_itself q), later qs (members qs))
+members (q ∷ qs) = (ap (λ b. b || is_among q qs) (same_text_itself q), later qs (members qs))
   where
     later : (rs : List (List ℕ)) → AllByRecursion (λ r. is_among r qs ≡ true) rs → AllByRecursion (λ r. is_among r (q ∷ qs) ≡ true) rs
     later [] h = tt
@@ -58,20 +49,16 @@ pub absent : (ps qs : List (List ℕ)) (q : List ℕ) → AllByRecursion (λ p. 
 absent [] qs q apart here = refl
 absent (p ∷ ps) qs q apart here =
     or_false (same_text q p) (is_among q ps)
-    (false_from_ne_true (same_text q p) (λ e. false≢true (sym apart.0 ∙ ap (λ x. is_among x qs) (sym (same_is q p e)) ∙ here)))
+    (false_from_ne_true (same_text q p) (λ e. false≢true (sym apart.0 ∙ ap (λ x. is_among x qs) (sym (same_text_is q p e)) ∙ here)))
     (absent ps qs q apart.1 here)
 
-distinct_append : (ps qs : List (List ℕ)) → are_distinct ps ≡ true → are_distinct qs ≡ true → AllByRecursion (λ p. is_among p qs ≡ false) ps → are_distinct (ps ++ qs) ≡ true
+pub distinct_append : (ps qs : List (List ℕ)) → are_distinct ps ≡ true → are_distinct qs ≡ true → AllByRecursion (λ p. is_among p qs ≡ false) ps → are_distinct (ps ++ qs) ≡ true
 distinct_append [] qs dp dq apart = dq
 distinct_append (p ∷ ps) qs dp dq apart =
     let both = and_parts (not (is_among p ps)) (are_distinct ps) dp in
     and_from (not (is_among p (ps ++ qs))) (are_distinct (ps ++ qs))
-    (ap not (list_any-append (same_text p) ps qs ∙ or_false (is_among p ps) (is_among p qs) (not_true (is_among p ps) both.0) apart.0))
+    (ap not (list_any-append (same_text p) ps qs ∙ or_false (is_among p ps) (is_among p qs) (not-true (is_among p ps) both.0) apart.0))
     (distinct_append ps qs both.1 dq apart.1)
-
-all_append : (P : List ℕ → Type 0) (ps qs : List (List ℕ)) → AllByRecursion P ps → AllByRecursion P qs → AllByRecursion P (ps ++ qs)
-all_append P [] qs hp hq = hq
-all_append P (p ∷ ps) qs hp hq = (hp.0, all_append P ps qs hp.1 hq)
 
 all_both : (P Q R : List ℕ → Type 0) (ps : List (List ℕ)) → ((p : List ℕ) → P p → Q p → R p) → AllByRecursion P ps → AllByRecursion Q ps → AllByRecursion R ps
 all_both P Q R [] f hp hq = tt
@@ -116,7 +103,7 @@ still_among p r [] other h = h
 still_among p r (q ∷ qs) other h =
     elim (cases_Bool (same_text p q)) [
       | inl e ↦
-          let apart : same_text r q ≡ false = false_from_ne_true (same_text r q) (λ s. false≢true (sym other ∙ ap (same_text p) (same_is r q s) ∙ e)) in
+          let apart : same_text r q ≡ false = false_from_ne_true (same_text r q) (λ s. false≢true (sym other ∙ ap (same_text p) (same_text_is r q s) ∙ e)) in
           ap (λ b. is_among r (cond b qs (q ∷ without p qs))) e ∙ sym (ap (λ b. b || is_among r qs) apart) ∙ h
       | inr e ↦ ap (λ b. is_among r (cond b qs (q ∷ without p qs))) e
           ∙ elim (cases_Bool (same_text r q)) [
@@ -136,7 +123,7 @@ pub no_more : (ps qs : List (List ℕ)) → are_distinct ps ≡ true → AllByRe
 no_more [] qs d h = omega arith
 no_more (p ∷ ps) qs d h =
     let both = and_parts (not (is_among p ps)) (are_distinct ps) d in
-    let fewer = no_more ps (without p qs) both.1 (all_still p ps qs (not_true (is_among p ps) both.0) h.1) in
+    let fewer = no_more ps (without p qs) both.1 (all_still p ps qs (not-true (is_among p ps) both.0) h.1) in
     let one = without_length p qs h.0 in
     omega (arith, fewer, one)
 
@@ -165,7 +152,7 @@ module _ {Key Row : Type 0} where
   away : (c : Codec Key Row) (t : Tables) (x : Key × Option Row) (q : List ℕ) → same_text q (place_of c x) ≡ false → tables.get (with_change c t x) q ≡ tables.get t q
   away c t x q other =
       get_after_change c t x q ∙ ap (λ b. cond b (option_map c.row_bytes x.1) (tables.get t q))
-      (false_from_ne_true (eq_by_cmp bytes_cmp q (place_of c x)) (λ e. false≢true (sym other ∙ ap (λ p. same_text p (place_of c x)) (same_place q (place_of c x) e) ∙ same_itself (place_of c x))))
+      (false_from_ne_true (eq_by_cmp bytes_cmp q (place_of c x)) (λ e. false≢true (sym other ∙ ap (λ p. same_text p (place_of c x)) (same_place q (place_of c x) e) ∙ same_text_itself (place_of c x))))
 
   here : (c : Codec Key Row) (t : Tables) (x : Key × Option Row) → tables.get (with_change c t x) (place_of c x) ≡ option_map c.row_bytes x.1
   here c t x = get_after_change c t x (place_of c x) ∙ ap (λ b. cond b (option_map c.row_bytes x.1) (tables.get t (place_of c x))) (ap is_eq (tied (place_of c x) (place_of c x) refl))
@@ -183,14 +170,14 @@ module _ {Key Row : Type 0} where
   real_later c t x (y ∷ xs) out h =
       let parts = false_parts (same_text (place_of c x) (place_of c y)) (is_among (place_of c x) (map (place_of c) xs)) out in
       let turned : same_text (place_of c y) (place_of c x) ≡ false = false_from_ne_true (same_text (place_of c y) (place_of c x))
-      (λ e. false≢true (sym parts.0 ∙ ap (same_text (place_of c x)) (same_is (place_of c y) (place_of c x) e) ∙ same_itself (place_of c x))) in
+      (λ e. false≢true (sym parts.0 ∙ ap (same_text (place_of c x)) (same_text_is (place_of c y) (place_of c x) e) ∙ same_text_itself (place_of c x))) in
       (λ same. h.0 (sym (away c t x (place_of c y) turned) ∙ same), real_later c t x xs parts.1 h.1)
 
   pub changes_differ : (c : Codec Key Row) (t : Tables) (xs : List (Key × Option Row)) → AreReal c t xs → AreDifferences (tables.get t) (tables.get (with_changes c t xs)) (map (place_of c) xs)
   changes_differ c t [] real = record { once = refl; each = tt; only = λ q out. refl }
   changes_differ c t (x ∷ xs) real =
       let both = and_parts (not (is_among (place_of c x) (map (place_of c) xs))) (are_distinct (map (place_of c) xs)) real.apart in
-      let out = not_true (is_among (place_of c x) (map (place_of c) xs)) both.0 in
+      let out = not-true (is_among (place_of c x) (map (place_of c) xs)) both.0 in
       differences_add (tables.get t) (tables.get (with_change c t x)) (tables.get (with_changes c (with_change c t x) xs)) (place_of c x ∷ []) (map (place_of c) xs)
       (one_differs c t x real.each.0)
       (changes_differ c (with_change c t x) xs (record { apart = both.1; each = real_later c t x xs out real.each.1 }))

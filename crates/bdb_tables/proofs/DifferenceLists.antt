@@ -2,7 +2,6 @@
 use Rattle.std.proofs.Common.{◌≡◌, ◌≢◌, Bool, true, false, not, cond, ℕ, List, [], ◌∷◌, ◌++◌, Option, Some, None, refl, sym, ap, subst, ◌∙◌, inl, inr}
 use Rattle.std.specs.Prelude.{◌||◌}
 use Rattle.std.specs.List.{AllByRecursion, list_any}
-use Rattle.std.specs.Option.{is_some}
 use Rattle.std.specs.Ordering.{eq_by_cmp}
 use Rattle.std.specs.FinMap as tables
 use Rattle.std.specs.FinMap.{contains_key-keys}
@@ -11,10 +10,11 @@ use Rattle.std.proofs.lemmas.List.Folds.{list_any-append}
 use Rattle.bdb_base.specs.Bases.{are_distinct}
 use Rattle.bdb_base.specs.Same.{same_text}
 use Rattle.bdb_base.specs.SameLemmas.{same_text-Decides}
+use Rattle.bdb_base.proofs.OptionLemmas.{none_there}
 use Rattle.bdb_keep.specs.Tables.{Tables, bytes_cmp}
+use Rattle.bdb_keep.proofs.RowsLemmas.{same_place}
 use Rattle.bdb_tables.specs.Differences.{AreDifferences, DifferencesAreListed}
 use Rattle.bdb_tables.proofs.DifferenceLemmas.{is_among, false_parts, or_false}
-use Rattle.bdb_tables.proofs.Held.{same_place}
 
 -- two rows are one, or there is none of either
 same_row : Option (List ℕ) → Option (List ℕ) → Bool
@@ -134,10 +134,6 @@ no_tie q (p ∷ ps) out =
     or_false (eq_by_cmp bytes_cmp q p) (list_any (eq_by_cmp bytes_cmp q) ps)
     (false_from_ne_true (eq_by_cmp bytes_cmp q p) (λ e. false≢true (sym parts.0 ∙ (same_text-Decides q p).1 (same_place q p e))))
     (no_tie q ps parts.1)
-
-none_there : (o : Option (List ℕ)) → is_some o ≡ false → o ≡ None
-none_there None e = refl
-none_there (Some r) e = absurd (false≢true (sym e))
 
 -- where a place is no key of tables they have no row
 no_key : (t : Tables) (q : List ℕ) → is_among q (tables.keys t) ≡ false → tables.get t q ≡ None

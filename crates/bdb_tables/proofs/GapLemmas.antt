@@ -1,8 +1,9 @@
 -- Numbers that are tried one after the other, up to the first that is no key.
-use Rattle.std.proofs.Common.{◌≡◌, ◌∙◌, ℕ, ◌+◌, ◌≤◌, ◌<◌, Bool, true, false, List, ◌∷◌, Option, Some, None, refl, ap, sym, inl, inr, arith}
+use Rattle.std.proofs.Common.{◌≡◌, ◌∙◌, ℕ, ◌+◌, ◌≤◌, ◌<◌, Bool, true, false, ◌∷◌, ap, sym, inl, inr, arith}
 use Rattle.std.specs.Option.{is_some}
 use Rattle.std.specs.FinMap as tables
-use Rattle.std.proofs.lemmas.Bool.{cases_lt, false≢true}
+use Rattle.std.proofs.lemmas.Bool.{cases_lt}
+use Rattle.bdb_base.proofs.OptionLemmas.{none_there}
 use Rattle.bdb_key.specs.Bytes.{num_bytes}
 use Rattle.bdb_key.specs.Grammar.{IsNum}
 use Rattle.bdb_keep.specs.Tables.{Tables}
@@ -31,10 +32,6 @@ one_tried t u tab low n past before now later found e reads same there all here 
   ];
   reads = omega (arith, all.reads);
 }
-
-none_there : (o : Option (List ℕ)) → is_some o ≡ false → o ≡ None
-none_there None e = refl
-none_there (Some r) e = absurd (false≢true (sym e))
 
 pub gap_found : (t u : Tables) (tab low n before now : ℕ) (found : Bool) → IsNum n → u ≡ t → found ≡ false
     → AreTried t tab low n before now → is_number_of u tab n ≡ found → IsFirstGap t tab low n

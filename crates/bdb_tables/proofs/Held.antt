@@ -1,47 +1,32 @@
 -- Tables in the grammar, read and changed through the words of one table.
-use Rattle.std.proofs.Common.{◌≡◌, ℕ, zero, suc, List, [], ◌∷◌, ◌++◌, Bool, true, cond, Option, Some, None, IsTrue, refl, sym, ap, subst, ◌∙◌, arith, inl, inr}
+use Rattle.std.proofs.Common.{◌≡◌, ℕ, zero, suc, List, [], ◌∷◌, ◌++◌, Bool, true, cond, Option, Some, None, IsTrue, refl, sym, ap, subst, ◌∙◌, arith, inl, inr, false}
 use Rattle.std.specs.declared.cmp.Ordering.{Ordering}
 use Rattle.std.specs.declared.cmp.Ordering.TheVariants.{Less, Equal, Greater}
-use Rattle.std.specs.Ordering.{is_eq, is_le, is_lt, eq_by_cmp, nat_cmp, ordering_then}
+use Rattle.std.specs.Ordering.{is_le, is_lt, eq_by_cmp, nat_cmp, ordering_then}
 use Rattle.std.specs.Bool.{MatchBool}
 use Rattle.std.specs.FinMap as map
-use Rattle.std.specs.FinMap.{get-from_entries, get-insert, get-remove}
-use Rattle.std.proofs.lemmas.Bool.{cases_Bool}
+use Rattle.std.specs.FinMap.{get-from_entries}
+use Rattle.std.proofs.lemmas.Bool.{cases_Bool, false≢true, eqb-true, eq-eqb}
 use Rattle.std.proofs.lemmas.Cmp.{nat_list_cmp_total}
+use Rattle.std.specs.Option.{option_map}
 use Rattle.bdb_keep.specs.Tables.{Tables, bytes_cmp}
-use Rattle.bdb_key.proofs.Forms.{same_bytes}
 use Rattle.bdb_base.proofs.Numbers.{less}
+use Rattle.bdb_base.proofs.OptionLemmas.{none_is_some, same_some}
+use Rattle.bdb_keep.proofs.Gets.{get_after_insert, get_after_remove}
+use Rattle.bdb_keep.proofs.RowsLemmas.{same_place}
 use Rattle.bdb_tables.specs.Codec.{Codec, IsEntryOf, IsKeyOf, IsRowOf, HasFirst, HasLeast, KeepsOrder, TableFits, place}
 use Rattle.bdb_tables.specs.Grammar.{IsEntry, InGrammar}
-use Rattle.bdb_tables.specs.InUse.{meta_codec, user_codec, rel_codec, plain_codec}
+use Rattle.bdb_tables.specs.InUse.{meta_codec, user_codec, rel_codec, plain_codec, depth_codec, link_codec, edge_codec}
+use Rattle.bdb_tables.specs.Names.{leads_to}
+use Rattle.bdb_tables.specs.States.{row_where}
 
 -- ---- places
-
-pub get_after_insert : (t : Tables) (p row q : List ℕ) → map.get (map.insert t p row) q ≡ cond (eq_by_cmp bytes_cmp q p) (Some row) (map.get t q)
-get_after_insert t p row q = get-insert nat_list_cmp_total t p row q
-
-pub get_after_remove : (t : Tables) (p q : List ℕ) → map.get (map.remove t p) q ≡ cond (eq_by_cmp bytes_cmp q p) None (map.get t q)
-get_after_remove t p q = get-remove nat_list_cmp_total t p q
-
-is_equal : (o : Ordering) → is_eq o ≡ true → o ≡ Equal
-is_equal Less e = absurd cc
-is_equal Equal e = refl
-is_equal Greater e = absurd cc
-
-pub same_place : (p q : List ℕ) → eq_by_cmp bytes_cmp p q ≡ true → p ≡ q
-same_place p q e = same_bytes p q (is_equal (bytes_cmp p q) e)
 
 pub head_same : (m n : ℕ) (j k : List ℕ) → m ∷ j ≡ n ∷ k → m ≡ n
 head_same m n j k e = cc
 
 tail_same : (m n : ℕ) (j k : List ℕ) → m ∷ j ≡ n ∷ k → j ≡ k
 tail_same m n j k e = cc
-
-pub some_same : (r s : List ℕ) → Some r ≡ Some s → r ≡ s
-some_same r s e = cc
-
-pub none_some : (r : List ℕ) → None ≡ Some r → ⊥
-none_some r e = cc
 
 -- a fact of the row at each place, after a put or a removal
 module _ (P : ℕ → List ℕ → List ℕ → Type 0) where
@@ -53,7 +38,7 @@ module _ (P : ℕ → List ℕ → List ℕ → Type 0) where
         | inl e ↦
             let same = same_place (n ∷ k) (m ∷ j) e in
             let row : Some s ≡ Some r = sym (after ∙ ap (λ b. cond b (Some s) (map.get t (n ∷ k))) e) ∙ found in
-            subst (λ x. P x k r) (sym (head_same n m k j same)) (subst (λ x. P m x r) (sym (tail_same n m k j same)) (subst (P m j) (some_same s r row) here))
+            subst (λ x. P x k r) (sym (head_same n m k j same)) (subst (λ x. P m x r) (sym (tail_same n m k j same)) (subst (P m j) (same_some s r row) here))
         | inr e ↦ h n k r (sym (after ∙ ap (λ b. cond b (Some s) (map.get t (n ∷ k))) e) ∙ found)
       ]
 
@@ -62,7 +47,7 @@ module _ (P : ℕ → List ℕ → List ℕ → Type 0) where
   remove_keeps_each t p h n k r found =
       let after = get_after_remove t p (n ∷ k) in
       elim (cases_Bool (eq_by_cmp bytes_cmp (n ∷ k) p)) [
-        | inl e ↦ absurd (none_some r (sym (after ∙ ap (λ b. cond b None (map.get t (n ∷ k))) e) ∙ found))
+        | inl e ↦ absurd (none_is_some r (sym (after ∙ ap (λ b. cond b None (map.get t (n ∷ k))) e) ∙ found))
         | inr e ↦ h n k r (sym (after ∙ ap (λ b. cond b None (map.get t (n ∷ k))) e) ∙ found)
       ]
 
@@ -152,3 +137,27 @@ remove_kept t u p e h = subst InGrammar (sym e) (remove_keeps t p h)
 -- what is known where a test is true
 pub at_true : (b : Bool) (P Q : Type 0) → b ≡ true → MatchBool b P Q → P
 at_true b P Q e h = subst (λ v. MatchBool v P Q) e h
+
+-- ---- the keys of one table fit
+
+pub depths_fit : (t : Tables) → InGrammar t → TableFits depth_codec t
+depths_fit t g k r f = g 6 k r f
+
+pub links_fit : (t : Tables) → InGrammar t → TableFits link_codec t
+links_fit t g k r f = g 7 k r f
+
+pub edges_fit : (t : Tables) → InGrammar t → TableFits edge_codec t
+edges_fit t g k r f = g 9 k r f
+
+-- ---- where an edge or a link leads
+
+pub leads_is : (o : Option ℕ) (n : ℕ) → leads_to o n ≡ true → o ≡ Some n
+leads_is None n h = absurd (false≢true h)
+leads_is (Some m) n h = ap Some (eqb-true m n h)
+
+pub leads_self : (o : Option ℕ) (n : ℕ) → o ≡ Some n → leads_to o n ≡ true
+leads_self o n e = ap (λ x. leads_to x n) e ∙ eq-eqb n n refl
+
+pub row_is : (b : Bool) (x : List ℕ) → option_map (λ (u : Unit {0}). x) (row_where b) ≡ Some x → b ≡ true
+row_is true x e = refl
+row_is false x e = absurd cc

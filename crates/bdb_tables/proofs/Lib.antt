@@ -1,4 +1,3 @@
-pub mod BeginningLemmas
 pub mod CatalogLemmas
 pub mod CopyLemmas
 pub mod DifferenceLemmas
@@ -18,5 +17,7 @@ pub mod SpanLemmas
 pub mod Numbered
 pub mod PartLemmas
 pub mod Plain
+pub mod PrefixLemmas
 pub mod Prefixes
 pub mod WriteLemmas
+pub mod UsedLemmas

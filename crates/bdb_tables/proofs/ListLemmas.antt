@@ -13,11 +13,6 @@ pub prefix_append : (p q : List ℕ) → is_prefix p (p ++ q) ≡ true
 prefix_append [] q = refl
 prefix_append (i ∷ p) q = and_from (nat_eq i i) (is_prefix p (p ++ q)) (eq-eqb i i refl) (prefix_append p q)
 
-pub prefix_shorter : (p r q : List ℕ) → is_prefix (p ++ r) q ≡ true → is_prefix p q ≡ true
-prefix_shorter [] r q e = refl
-prefix_shorter (i ∷ p) r [] e = e
-prefix_shorter (i ∷ p) r (j ∷ q) e = let k = and_parts (nat_eq i j) (is_prefix (p ++ r) q) e in and_from (nat_eq i j) (is_prefix p q) k.0 (prefix_shorter p r q k.1)
-
 -- what follows a beginning
 pub prefix_rest : (p q : List ℕ) → is_prefix p q ≡ true → (r : List ℕ) × (q ≡ p ++ r)
 prefix_rest [] q e = (q, refl)
@@ -28,14 +23,6 @@ prefix_rest (i ∷ p) (j ∷ q) e =
     (r.0, ap (λ n. n ∷ q) (sym (eqb-true i j k.0)) ∙ ap (λ (x : List ℕ). i ∷ x) r.1)
 
 -- ---- what passes a test
-
-pub all_filter : {X : Type 0} (P : X → Type 0) (p : X → Bool) (xs : List X) → AllByRecursion P xs → AllByRecursion P (filter p xs)
-all_filter P p [] h = tt
-all_filter P p (x ∷ xs) h = by (all_filter P p xs h.1) (p x)
-  where
-    by : AllByRecursion P (filter p xs) → (b : Bool) → AllByRecursion P (cond b (x ∷ filter p xs) (filter p xs))
-    by rest true = (h.0, rest)
-    by rest false = rest
 
 pub all_pass : {X : Type 0} (p : X → Bool) (xs : List X) → AllByRecursion (λ x. p x ≡ true) (filter p xs)
 all_pass p [] = tt

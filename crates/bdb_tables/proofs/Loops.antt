@@ -2,13 +2,15 @@
 use Rattle.std.proofs.Common.{◌≡◌, ℕ, zero, suc, ◌+◌, ◌<◌, ◌≤◌, List, [], ◌∷◌, ◌++◌, length, take, drop, get_or, Option, Ok, Err, sym, ap, subst, ◌∙◌, arith}
 use Rattle.std.specs.List.{AllByRecursion}
 use Rattle.std.proofs.lemmas.List.{drop_more, take_more}
-use Rattle.bdb_base.specs.Causes.{Rises, Rose, RoseBy}
+use Rattle.bdb_base.specs.Causes.{Rises, RoseBy}
+use Rattle.bdb_base.proofs.CauseLemmas.{rose_later}
 use Rattle.bdb_keep.specs.Calls.{IsRead, IsWrite}
 use Rattle.bdb_keep.specs.Seen.{Seen, IsAtRest, NeverFall, GoesOn, Steps}
 use Rattle.bdb_keep.specs.Tables.{Tables}
 use Rattle.bdb_key.proofs.Readings.{all_push}
 use Rattle.bdb_tables.specs.Codec.{Codec}
 use Rattle.bdb_tables.specs.Writes.{with_change, with_changes}
+use Rattle.bdb_tables.specs.Reading.{OnlyReads}
 
 -- nothing has changed but counts, and this much is read
 pub record IsReading (old new : Seen) (Read : Type 0) : Type 0 where
@@ -37,9 +39,6 @@ counts_then a b c g h = record {
   writes = omega (arith, g.writes, h.writes);
   commits = omega (arith, g.commits, h.commits);
 }
-
-rose_later : (a b c : ℕ) → a ≤ b → Rose b c → Rose a c
-rose_later a b c le r = omega arith
 
 -- a call that refuses, after others that went on
 pub steps_err : {T U E : Type 0} (old a b : Seen) (e fault : E) → GoesOn old a → Steps {T = T} {E = E} a b (Err e) fault → Steps {T = U} {E = E} old b (Err e) fault
@@ -118,3 +117,21 @@ pub changes_left : {Key Row : Type 0} (c : Codec Key Row) (t u : Tables) (xs : L
 changes_left c t u xs i x lt e made =
     ap (λ v. with_changes c v (drop (i + 1) xs)) made
     ∙ sym (ap (with_changes c t) (drop_more xs i x lt ∙ ap (λ y. y ∷ drop (i + 1) xs) (sym e)))
+
+-- calls that only read, one more
+pub only_reads_more : {P T E Q : Type 0} (old a b : Seen) (x : T) (fault : E) → IsReading old a P → OnlyReads {T = T} {E = E} a b (Ok x) fault → Q → IsReading old b Q
+only_reads_more old a b x fault h r q = record {
+  goes = goes_then old a b h.goes r.steps.ok;
+  kept = r.kept ∙ h.kept;
+  writes = r.writes ∙ h.writes;
+  counts = counts_then old a b h.counts r.counts;
+  read = q;
+}
+
+-- a call that refuses, whatever it were to answer
+pub err_steps : {T U E : Type 0} (old new : Seen) (e fault : E) → Steps {T = T} {E = E} old new (Err e) fault → Steps {T = U} {E = E} old new (Err e) fault
+err_steps old new e fault h =
+    record { cause = record { later = h.cause.later; rose = λ is. h.cause.rose (let same : e ≡ fault = cc in ap Err same) }; ok = tt; err = h.err }
+
+pub read_answers : {T U E : Type 0} (old new : Seen) (x : T) (y : U) (fault : E) → IsRead {T = T} {E = E} old new (Ok x) fault → IsRead {T = U} {E = E} old new (Ok y) fault
+read_answers old new x y fault r = record { rest = r.rest; kept = r.kept; writes = r.writes; counts = r.counts; steps = steps_ok old new y fault r.steps.ok }

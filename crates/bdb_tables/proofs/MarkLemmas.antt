@@ -1,11 +1,11 @@
 -- Rows of table 11 by the numbers of their tuples, and the rows of a group as a table of their own.
 use Rattle.std.proofs.Common.{◌≡◌, ℕ, ◌+◌, ◌-◌, ◌≤◌, true, List, [], ◌∷◌, ◌++◌, Option, Some, None, map, length, drop, refl, sym, ap, subst, ◌∙◌, arith, length-append}
-use Rattle.std.specs.Prelude.{nat_eq}
 use Rattle.std.specs.List.{AllByRecursion}
-use Rattle.std.proofs.lemmas.Bool.{and_parts, eqb-true, false≢true}
 use Rattle.std.proofs.Math.Seq.{drop-append_seam}
+use Rattle.std.specs.Option.{option_map}
 use Rattle.bdb_base.specs.declared.kinds.Value.{Value}
 use Rattle.bdb_base.specs.Segments.{is_prefix}
+use Rattle.bdb_base.proofs.OptionLemmas.{none_is_some, same_some}
 use Rattle.bdb_keep.specs.Tables.{Tables}
 use Rattle.bdb_key.proofs.Alone.{one_num}
 use Rattle.bdb_key.proofs.Readings.{num_form}
@@ -20,15 +20,9 @@ use Rattle.bdb_tables.specs.InUse.{ValKey, IsValKey, val_bytes, val_codec}
 use Rattle.bdb_tables.specs.Marks.{Mark}
 use Rattle.bdb_tables.specs.Spans.{IsUnder, AreUnder}
 use Rattle.bdb_tables.specs.Writes.{IsChange, with_change, with_changes}
+use Rattle.bdb_tables.specs.InUseLaws.{mark_rows_are_one}
 use Rattle.bdb_tables.proofs.PartLemmas.{vals_form}
-
-rest_from : (p q : List ℕ) → is_prefix p q ≡ true → (r : List ℕ) × (q ≡ p ++ r)
-rest_from [] q e = (q, refl)
-rest_from (i ∷ p) [] e = absurd (false≢true e)
-rest_from (i ∷ p) (j ∷ q) e =
-    let k = and_parts (nat_eq i j) (is_prefix p q) e in
-    let r = rest_from p q k.1 in
-    (r.0, ap (λ n. n ∷ q) (sym (eqb-true i j k.0)) ∙ ap (λ (x : List ℕ). i ∷ x) r.1)
+use Rattle.bdb_tables.proofs.ListLemmas.{prefix_rest}
 
 -- ---- one group, whose keys begin with its own bytes
 
@@ -39,7 +33,7 @@ module _ (w r : ℕ) (v : List Value) (wn : IsNum w) (rn : IsNum r) (vp : AreKey
   -- a key that begins with the group's bytes is the group's
   key_is : (k : ValKey) → IsValKey k → is_prefix (group_bytes w r v) (val_bytes k) ≡ true → (w, r, v, k.3) ≡ k
   key_is k f begins =
-      let rest = rest_from (group_bytes w r v) (val_bytes k) begins in
+      let rest = prefix_rest (group_bytes w r v) (val_bytes k) begins in
       let one = num_form k.0 w (num_bytes k.1 ++ vals_bytes k.2 ++ num_bytes k.3) (num_bytes r ++ vals_bytes v ++ rest.0) f.world wn rest.1 in
       let two = num_form k.1 r (vals_bytes k.2 ++ num_bytes k.3) (vals_bytes v ++ rest.0) f.rel rn one.1 in
       let three = vals_form k.2 v (num_bytes k.3) rest.0 f.key vp two.1 in
@@ -99,7 +93,7 @@ entry_in_table p g k row e =
 pub is_mark_row : (key row : List ℕ) → IsEntryOf val_codec key row → IsRowOf val_codec row
 is_mark_row key row e = (e.row, e.row_reads)
 
-long_enough : (k : ValKey) → 4 ≤ length (val_bytes k)
+pub long_enough : (k : ValKey) → 4 ≤ length (val_bytes k)
 long_enough k =
     let whole : length (val_bytes k) ≡ length (num_bytes k.0 ++ num_bytes k.1 ++ vals_bytes k.2) + 4 = length-append (num_bytes k.0 ++ num_bytes k.1 ++ vals_bytes k.2) (num_bytes k.3) in
     omega (arith, whole)
@@ -129,3 +123,7 @@ is_numbered key row last n m e is number mark = record {
   row_reads = mark;
   is = ap (λ (x : ℕ). (x, m)) (one_num n e.key.3 number.fits e.key_reads.fits.tuple (number.spelled ∙ is ∙ last_is key row e));
 }
+
+pub mark_is : (o : Option Mark) (m : Mark) → option_map mark_bytes o ≡ Some (mark_bytes m) → o ≡ Some m
+mark_is None m e = absurd (none_is_some (mark_bytes m) e)
+mark_is (Some k) m e = ap Some (mark_rows_are_one k m tt tt (same_some (mark_bytes k) (mark_bytes m) e))

@@ -1,12 +1,9 @@
 -- Bytes that begin alike lie side by side in the order of bytes.
-use Rattle.std.proofs.Common.{◌≡◌, ℕ, true, List, [], ◌∷◌, refl, sym, ap, ◌∙◌, arith}
-use Rattle.std.specs.Prelude.{nat_eq}
+use Rattle.std.proofs.Common.{◌≡◌, ℕ, true, List, refl, sym, ap, ◌∙◌}
 use Rattle.std.specs.declared.cmp.Ordering.{Ordering}
 use Rattle.std.specs.declared.cmp.Ordering.TheVariants.{Less, Equal, Greater}
 use Rattle.std.specs.Ordering.{is_le}
-use Rattle.std.proofs.lemmas.Bool.{and_from}
 use Rattle.std.proofs.lemmas.Cmp.{nat_list_cmp_total, tied_itself}
-use Rattle.bdb_base.specs.Segments.{is_prefix}
 use Rattle.bdb_keep.specs.Tables.{bytes_cmp}
 use Rattle.bdb_keep.specs.Scans.{next_key}
 use Rattle.bdb_keep.proofs.Scans.{above_key}
@@ -36,12 +33,3 @@ le_trans a b c ab bc = by (bytes_cmp a b) refl ab
 -- a key lies below the least that is above it
 pub below_next : (k : List ℕ) → bytes_cmp k (next_key k) ≡ Less
 below_next k = above_key k (next_key k) (le_itself (next_key k))
-
--- ---- beginnings
-
-pub prefix_itself : (p : List ℕ) → is_prefix p p ≡ true
-prefix_itself [] = refl
-prefix_itself (i ∷ p) = and_from (nat_eq i i) (is_prefix p p) (nat_same i) (prefix_itself p)
-  where
-    nat_same : (n : ℕ) → nat_eq n n ≡ true
-    nat_same n = grind arith

@@ -6,6 +6,7 @@ use Rattle.std.specs.FinMap as tables
 use Rattle.std.proofs.lemmas.Bool.{false≢true, false_from_ne_true, eqb-true}
 use Rattle.bdb_base.specs.declared.kinds.Stmt.{Stmt}
 use Rattle.bdb_keep.specs.Tables.{Tables, bytes_cmp}
+use Rattle.bdb_keep.proofs.RowsLemmas.{same_place}
 use Rattle.bdb_tables.specs.Codec.{Codec, place}
 use Rattle.bdb_tables.specs.InUse.{tuple_codec, tuple_ix_codec, depth_codec, link_codec, linked_codec, edge_codec, led_codec}
 use Rattle.bdb_tables.specs.Names.{Names}
@@ -13,7 +14,6 @@ use Rattle.bdb_tables.specs.Rows.{Tuples, HoldsTuples}
 use Rattle.bdb_tables.specs.States.{HoldsStates}
 use Rattle.bdb_tables.specs.Stored.{is_table, SameBut}
 use Rattle.bdb_tables.specs.Writes.{Gives, with_change}
-use Rattle.bdb_tables.proofs.Held.{same_place}
 use Rattle.bdb_tables.proofs.WriteLemmas.{get_after_change}
 
 -- what is none of some tables is not one of them

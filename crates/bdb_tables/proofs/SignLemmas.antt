@@ -4,32 +4,22 @@ use Rattle.std.specs.List.{list_any}
 use Rattle.std.specs.Ordering.{is_eq}
 use Rattle.std.proofs.lemmas.Bool.{cases_Bool, false≢true, false_from_ne_true, and_parts, and_from, or_cases, or_left, or_right}
 use Rattle.std.proofs.lemmas.Map.Views.{any-filter_same}
-use Rattle.bdb_base.specs.Bases.{stands, with_statement, without_statement}
+use Rattle.bdb_base.specs.Bases.{with_statement, without_statement}
 use Rattle.bdb_base.specs.Clash.{clash}
 use Rattle.bdb_base.specs.Order.{statement_cmp}
 use Rattle.bdb_base.specs.OrderLemmas.{statement_exact, is_eq_statement_cmp}
-use Rattle.bdb_base.specs.Same.{same_path, same_tuple, same_sign, same_statement}
+use Rattle.bdb_base.specs.Same.{same_path, same_tuple, same_sign}
 use Rattle.bdb_base.specs.SameLemmas.{same_path-Decides, same_tuple-Decides, same_sign-Decides}
-use Rattle.bdb_base.specs.SortedSet.{ascending}
 use Rattle.bdb_base.specs.Worlds.{explicit, IsConsistent}
 use Rattle.bdb_base.specs.declared.kinds.Sign.{Sign}
 use Rattle.bdb_base.specs.declared.kinds.Sign.TheVariants.{Plus, Minus}
 use Rattle.bdb_base.specs.declared.kinds.Stmt.{Stmt}
 use Rattle.bdb_base.specs.declared.tuple.Tuple.{Tuple}
 use Rattle.bdb_base.proofs.ListLemmas.{filter_kept_one, filter_dropped_one}
-use Rattle.bdb_base.proofs.SetLemmas.{is_eq-Equal, list_any-put_in, put_keeps_order, put_adds_member, members_make_set}
+use Rattle.bdb_base.proofs.SetLemmas.{is_eq-Equal, list_any-put_in}
 use Rattle.bdb_tables.specs.Marks.{sign_by, explicit_sign}
 
 -- ---- tests
-
--- two tests that pass each other's cases are one
-pub one_answer : (p q : Bool) → (p ≡ true → q ≡ true) → (q ≡ true → p ≡ true) → p ≡ q
-one_answer true q f g = sym (f refl)
-one_answer false q f g = sym (false_from_ne_true q (λ e. false≢true (g e)))
-
-pub or_false : (a b : Bool) → (a || b) ≡ false → (a ≡ false) × (b ≡ false)
-or_false true b e = absurd (false≢true (sym e))
-or_false false b e = (refl, e)
 
 -- what is found among some of a list is found in it
 pub found_before : (p q : Stmt → Bool) (xs : List Stmt) → list_any p (filter q xs) ≡ true → list_any p xs ≡ true
@@ -51,20 +41,6 @@ drop_unfelt p xs x none = any-filter_same p (λ y. not (is_eq (statement_cmp y x
     (λ y e. ap not (false_from_ne_true (is_eq (statement_cmp y x)) (λ c.
     false≢true (sym none ∙ ap p (sym (statement_exact.exact y x (is_eq-Equal (statement_cmp y x) c))) ∙ e))))
     xs
-
--- statements that compare as equal are one
-equal_is : (x y : Stmt) → is_eq (statement_cmp x y) ≡ true → x ≡ y
-equal_is x y e = statement_exact.exact x y (is_eq-Equal (statement_cmp x y) e)
-
--- a statement put where it stands changes nothing
-pub put_stands : (xs : List Stmt) (y : Stmt) → ascending statement_cmp xs ≡ true → stands xs y ≡ true → with_statement xs y ≡ xs
-put_stands xs y up here = members_make_set statement_exact (with_statement xs y) xs (put_keeps_order statement_exact xs y up) up (λ z. put_adds_member statement_exact xs y z ∙ by z)
-  where
-    by : (z : Stmt) → (is_eq (statement_cmp y z) || stands xs z) ≡ stands xs z
-    by z = elim (cases_Bool (is_eq (statement_cmp y z))) [
-      | inl e ↦ ap (λ b. b || stands xs z) e ∙ sym here ∙ ap (stands xs) (equal_is y z e)
-      | inr e ↦ ap (λ b. b || stands xs z) e
-    ]
 
 -- ---- one sign
 
@@ -89,11 +65,6 @@ sign_is_explicit stmts w u s e = by (explicit stmts w u Plus) (explicit stmts w 
     by false true a b Plus e = let f : sign_by (explicit stmts w u Plus) (explicit stmts w u Minus) ≡ Some Minus = ap (λ x. sign_by x (explicit stmts w u Minus)) a ∙ ap (λ x. sign_by false x) b in absurd cc
     by false true a b Minus e = b
     by false false a b s e = let f : sign_by (explicit stmts w u Plus) (explicit stmts w u Minus) ≡ None = ap (λ x. sign_by x (explicit stmts w u Minus)) a ∙ ap (λ x. sign_by false x) b in absurd cc
-
--- a statement stands where it is explicit at its own path
-pub stands_is_explicit : (stmts : List Stmt) (x : Stmt) → stands stmts x ≡ explicit stmts x.path x.tuple x.sign
-stands_is_explicit [] x = refl
-stands_is_explicit (y ∷ ys) x = ap (λ b. b || stands ys x) (is_eq_statement_cmp y x) ∙ ap (λ b. same_statement y x || b) (stands_is_explicit ys x)
 
 -- ---- other places
 
@@ -150,3 +121,11 @@ pub drop_says_none : (keys : ℕ → ℕ) (stmts : List Stmt) (x : Stmt) → IsC
 drop_says_none keys stmts x c here =
     let n = neither keys stmts x c here x.sign refl in
     ap (λ b. sign_by b (explicit (without_statement stmts x) x.path x.tuple Minus)) n.0 ∙ ap (λ b. sign_by false b) n.1
+
+-- a sign that is found by two tests passes its own
+pub sign_holds : (plus minus : Bool) (s : Sign) → sign_by plus minus ≡ Some s → (s ≡ Plus → plus ≡ true) × (s ≡ Minus → minus ≡ true)
+sign_holds true minus Plus e = (λ _. refl, λ k. absurd cc)
+sign_holds true minus Minus e = absurd cc
+sign_holds false true Plus e = absurd cc
+sign_holds false true Minus e = (λ k. absurd cc, λ _. refl)
+sign_holds false false s e = absurd cc

@@ -1,5 +1,5 @@
 -- Rows that are read one after the other from a beginning on are all whose keys begin so.
-use Rattle.std.proofs.Common.{◌≡◌, ℕ, Bool, true, false, cond, List, [], ◌∷◌, ◌++◌, Option, Some, None, map, refl, sym, ap, subst, ◌∙◌, inl, inr}
+use Rattle.std.proofs.Common.{◌≡◌, ℕ, true, false, cond, List, [], ◌∷◌, ◌++◌, Option, Some, None, map, refl, sym, ap, subst, ◌∙◌, inl, inr}
 use Rattle.std.specs.Prelude.{is_some}
 use Rattle.std.specs.declared.cmp.Ordering.{Ordering}
 use Rattle.std.specs.declared.cmp.Ordering.TheVariants.{Less}
@@ -12,22 +12,20 @@ use Rattle.std.proofs.lemmas.Bool.{and_parts, and_from, cases_Bool, false≢true
 use Rattle.std.proofs.lemmas.Cmp.{nat_list_cmp_total}
 use Rattle.bdb_base.specs.Segments.{is_prefix}
 use Rattle.bdb_base.specs.SortedSet.{ascending}
+use Rattle.bdb_base.proofs.ListLemmas.{list_all_push}
+use Rattle.bdb_base.proofs.AllLemmas.{all_weaker}
 use Rattle.bdb_keep.specs.Scans.{next_key}
 use Rattle.bdb_keep.specs.Tables.{Tables, bytes_cmp, IsLeastFrom, NoneFrom}
 use Rattle.bdb_keep.proofs.Scans.{between_keys}
-use Rattle.bdb_keep.proofs.UnderLemmas.{prefix_le, prefix_convex}
+use Rattle.bdb_keep.proofs.OrderLemmas.{prefix_le, prefix_convex}
+use Rattle.bdb_keep.proofs.RowsLemmas.{same_place}
 use Rattle.bdb_key.proofs.Readings.{all_push}
 use Rattle.bdb_key.specs.Reading.{Reads}
 use Rattle.bdb_tables.specs.Codec.{Codec}
 use Rattle.bdb_tables.specs.Spans.{entry_bytes, entry_cmp, IsUnder, AreUnder, IsNextUnder, NoneUnder, HasNextUnder}
-use Rattle.bdb_tables.proofs.Held.{same_place}
 use Rattle.bdb_tables.proofs.Prefixes.{le_itself, lt_le_lt, le_trans, below_next}
 
 -- ---- lists in order
-
-list_all_push : {X : Type 0} (p : X → Bool) (xs : List X) (x : X) → list_all p xs ≡ true → p x ≡ true → list_all p (xs ++ x ∷ []) ≡ true
-list_all_push p [] x h here = and_from (p x) true here refl
-list_all_push p (y ∷ xs) x h here = let both = and_parts (p y) (list_all p xs) h in and_from (p y) (list_all p (xs ++ x ∷ [])) both.0 (list_all_push p xs x both.1 here)
 
 ascending_push : {X : Type 0} (R : X → X → Ordering) (xs : List X) (x : X) → ascending R xs ≡ true → AllByRecursion (λ y. R y x ≡ Less) xs → ascending R (xs ++ x ∷ []) ≡ true
 ascending_push R [] x h below = refl
@@ -35,10 +33,6 @@ ascending_push R (y ∷ xs) x h below =
     let both = and_parts (list_all (λ z. is_lt (R y z)) xs) (ascending R xs) h in
     and_from (list_all (λ z. is_lt (R y z)) (xs ++ x ∷ [])) (ascending R (xs ++ x ∷ []))
     (list_all_push (λ z. is_lt (R y z)) xs x both.0 (ap is_lt below.0)) (ascending_push R xs x both.1 below.1)
-
-all_weaker : {X : Type 0} (P Q : X → Type 0) (xs : List X) → ((x : X) → P x → Q x) → AllByRecursion P xs → AllByRecursion Q xs
-all_weaker P Q [] weaker h = tt
-all_weaker P Q (x ∷ xs) weaker h = (weaker x h.0, all_weaker P Q xs weaker h.1)
 
 -- ---- rows read so far
 

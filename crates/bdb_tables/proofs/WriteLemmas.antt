@@ -8,10 +8,12 @@ use Rattle.std.specs.FinMap as tables
 use Rattle.std.proofs.lemmas.Bool.{false_from_ne_true}
 use Rattle.bdb_base.proofs.Numbers.{equal}
 use Rattle.bdb_keep.specs.Tables.{Tables, bytes_cmp, set_at}
+use Rattle.bdb_keep.proofs.Gets.{get_after_insert, get_after_remove}
+use Rattle.bdb_keep.proofs.RowsLemmas.{same_place}
 use Rattle.bdb_tables.specs.Codec.{Codec, IsEntryOf, TableFits, KeepsOrder, HasOneRow, place}
 use Rattle.bdb_tables.specs.Grammar.{IsEntry, InGrammar}
 use Rattle.bdb_tables.specs.Writes.{with_change, with_changes, IsChange, Gives, with_row_at, with_rows_at}
-use Rattle.bdb_tables.proofs.Held.{get_after_insert, get_after_remove, put_keeps_each, remove_keeps_each, same_place, head_same, held}
+use Rattle.bdb_tables.proofs.Held.{put_keeps_each, remove_keeps_each, head_same, held}
 
 -- ---- one place
 

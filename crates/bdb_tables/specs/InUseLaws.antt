@@ -9,6 +9,7 @@ use Rattle.bdb_base.specs.declared.kinds.Sign.{Sign}
 use Rattle.bdb_base.specs.declared.kinds.Value.{Value}
 use Rattle.bdb_base.specs.declared.tuple.Tuple.{Tuple}
 use Rattle.bdb_base.specs.Same.{tuple_of}
+use Rattle.bdb_base.proofs.Numbers.{then_equal}
 use Rattle.bdb_key.specs.declared.part.Part.{Part}
 use Rattle.bdb_key.specs.declared.part.Part.TheVariants.{Num, Val, Vals, Path}
 use Rattle.bdb_key.specs.declared.part.Slot.{Slot}
@@ -18,7 +19,6 @@ use Rattle.bdb_key.specs.declared.row.TabRow.TheVariants as rows
 use Rattle.bdb_key.specs.Bytes.{key_bytes, num_bytes, value_bytes, values_bytes, path_bytes}
 use Rattle.bdb_key.specs.Grammar.{FitsSlot, ArePlain}
 use Rattle.bdb_key.specs.Order.{key_cmp, vals_cmp}
-use Rattle.bdb_key.proofs.Alone.{then_equal}
 use Rattle.bdb_key.proofs.Keys.{keys_keep_order, keys_have_one_spelling}
 use Rattle.bdb_key.proofs.OneRow.{rows_have_one_spelling}
 use Rattle.bdb_keep.specs.Tables.{bytes_cmp}

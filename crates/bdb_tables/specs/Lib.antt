@@ -1,4 +1,3 @@
-pub mod Beginnings
 pub mod Codec
 pub mod Copies
 pub mod Differences
@@ -12,6 +11,7 @@ pub mod Lengths
 pub mod Marks
 pub mod Names
 pub mod Parts
+pub mod Prefixes
 pub mod Raw
 pub mod Reading
 pub mod Rows

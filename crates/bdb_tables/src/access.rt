@@ -61,7 +61,7 @@ pub fn get_in<T: Tab, K: Keeper>(
     match keeper.get(T::NUMBER, &room.key, &mut room.row) {
         Ok(true) => {}
         Ok(false) => return Ok(None),
-        Err(error) => return Err(told(error)),
+        Err(error) => return Err(table_error(error)),
     }
     match row_from::<T>(alloc, &room.row) {
         Ok(row) => Ok(Some(row)),
@@ -206,7 +206,7 @@ pub fn put_in<T: Tab, K: Keeper>(
     }
     match keeper.put(T::NUMBER, &room.key, &room.row) {
         Ok(()) => Ok(()),
-        Err(error) => Err(told(error)),
+        Err(error) => Err(table_error(error)),
     }
 }
 
@@ -259,7 +259,7 @@ pub fn drop_in<T: Tab, K: Keeper>(
     }
     match keeper.remove(T::NUMBER, &room.key) {
         Ok(found) => Ok(found),
-        Err(error) => Err(told(error)),
+        Err(error) => Err(table_error(error)),
     }
 }
 
@@ -279,7 +279,7 @@ fn first_from<T: Tab, K: Keeper>(
     match keeper.next(T::NUMBER, low, key, row) {
         Ok(true) => {}
         Ok(false) => return Ok(None),
-        Err(error) => return Err(told(error)),
+        Err(error) => return Err(table_error(error)),
     }
     match entry_from::<T>(alloc, key, row) {
         Ok(entry) => Ok(Some(entry)),
@@ -386,8 +386,8 @@ fn row_from<T: Tab>(alloc: Global, bytes: &[u8]) -> Result<T::Row, AllocError>
     }
 }
 
-// A keeper's error as a table's.
-pub fn told(error: KeepError) -> TabError
+/// A keeper's error as a table's.
+pub fn table_error(error: KeepError) -> TabError
     ensures { result ≡ TabError.Fault → error ≡ KeepError.Fault }
 {
     match error {

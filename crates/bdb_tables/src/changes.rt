@@ -6,7 +6,7 @@ ghost use Rattle.bdb_keep.specs.Calls.{IsWrite};
 ghost use Rattle.bdb_tables.specs.Grammar.{InGrammar};
 ghost use Rattle.bdb_tables.specs.Writes.{IsChange, MayBeChange, with_change, with_changes};
 
-use crate::access::{spell_key, spell_row, told};
+use crate::access::{spell_key, spell_row, table_error};
 use crate::tab::{Tab, TabError};
 use bdb_keep::Keeper;
 use std::alloc::Global;
@@ -70,12 +70,12 @@ fn write_row<T: Tab, K: Keeper>(
             }
             match keeper.put(T::NUMBER, key, row) {
                 Ok(()) => Ok(()),
-                Err(error) => Err(told(error)),
+                Err(error) => Err(table_error(error)),
             }
         }
         None => match keeper.remove(T::NUMBER, key) {
             Ok(_) => Ok(()),
-            Err(error) => Err(told(error)),
+            Err(error) => Err(table_error(error)),
         },
     }
 }

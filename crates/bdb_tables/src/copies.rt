@@ -9,7 +9,7 @@ ghost use Rattle.bdb_tables.specs.Grammar.{InGrammar};
 ghost use Rattle.bdb_tables.specs.InUse.{val_codec};
 ghost use Rattle.bdb_tables.specs.Spans.{AreEntriesOf};
 
-use crate::access::told;
+use crate::access::table_error;
 use crate::marks::{MARKS, mark_from};
 use crate::tab::TabError;
 use bdb_base::Sign;
@@ -41,12 +41,12 @@ pub fn copy_rows<K: Keeper>(
     let mut span = Span::new(alloc);
     match keeper.under(MARKS, &prefix, &mut span) {
         Ok(()) => {}
-        Err(error) => return Err(told(error)),
+        Err(error) => return Err(table_error(error)),
     }
     make_copies(&mut span, to);
     match keeper.put_all(MARKS, &span) {
         Ok(()) => Ok(span.len()),
-        Err(error) => Err(told(error)),
+        Err(error) => Err(table_error(error)),
     }
 }
 
@@ -68,11 +68,11 @@ pub fn clear_rows<K: Keeper>(alloc: Global, keeper: &mut K, wid: u32) -> Result<
     let mut span = Span::new(alloc);
     match keeper.under(MARKS, &prefix, &mut span) {
         Ok(()) => {}
-        Err(error) => return Err(told(error)),
+        Err(error) => return Err(table_error(error)),
     }
     match keeper.remove_all(MARKS, &span) {
         Ok(()) => Ok(span.len()),
-        Err(error) => Err(told(error)),
+        Err(error) => Err(table_error(error)),
     }
 }
 

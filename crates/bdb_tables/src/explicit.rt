@@ -5,7 +5,7 @@ ghost use Rattle.bdb_keep.specs.Calls.{IsRead};
 ghost use Rattle.bdb_tables.specs.Explicit.{TellsExplicit};
 ghost use Rattle.bdb_tables.specs.Grammar.{InGrammar};
 
-use crate::access::told;
+use crate::access::table_error;
 use crate::marks::MARKS;
 use crate::tab::TabError;
 use bdb_keep::{Keeper, KeyEnd};
@@ -19,6 +19,6 @@ pub fn has_explicit<K: Keeper>(keeper: &mut K, wid: u32) -> Result<bool, TabErro
 {
     match keeper.count_marked(MARKS, KeyEnd::First, wid) {
         Ok(count) => Ok(count > 0),
-        Err(error) => Err(told(error)),
+        Err(error) => Err(table_error(error)),
     }
 }

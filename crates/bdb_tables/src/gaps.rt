@@ -6,7 +6,7 @@ ghost use Rattle.bdb_keep.specs.Calls.{IsRead};
 ghost use Rattle.bdb_key.specs.Bytes.{num_bytes};
 ghost use Rattle.bdb_tables.specs.Gaps.{IsFirstGap};
 
-use crate::access::told;
+use crate::access::table_error;
 use crate::tab::TabError;
 use bdb_keep::Keeper;
 use bdb_key::put_num;
@@ -60,6 +60,6 @@ fn is_key<K: Keeper>(
     }
     match keeper.get(tab, key, row) {
         Ok(found) => Ok(found),
-        Err(error) => Err(told(error)),
+        Err(error) => Err(table_error(error)),
     }
 }

@@ -8,7 +8,7 @@ ghost use Rattle.bdb_tables.specs.Grammar.{InGrammar};
 ghost use Rattle.bdb_tables.specs.InUse.{rel_codec};
 ghost use Rattle.bdb_tables.specs.Lengths.{HasKeyAt, IsKeyLength};
 
-use crate::access::{fill_key, told};
+use crate::access::{fill_key, table_error};
 use crate::room::Room;
 use crate::tab::{Tab, TabError};
 use crate::tabs::RelTab;
@@ -44,7 +44,7 @@ pub fn stored_key_length<K: Keeper>(
     match keeper.get(RelTab::NUMBER, &key, &mut row) {
         Ok(true) => Ok(length_in(&row)),
         Ok(false) => Ok(1),
-        Err(error) => Err(told(error)),
+        Err(error) => Err(table_error(error)),
     }
 }
 

@@ -18,7 +18,9 @@ mod tab;
 mod tabs;
 mod world_tabs;
 
-pub use access::{after, drop_in, drop_row, get, get_in, next, next_in, put, put_in, read_tuple};
+pub use access::{
+    after, drop_in, drop_row, get, get_in, next, next_in, put, put_in, read_tuple, table_error,
+};
 pub use changes::write_rows;
 pub use copies::{clear_rows, copy_rows};
 pub use explicit::has_explicit;

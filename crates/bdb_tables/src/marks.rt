@@ -16,7 +16,7 @@ ghost use Rattle.bdb_tables.specs.InUse.{val_codec};
 ghost use Rattle.bdb_tables.specs.Spans.{AreEntriesOf};
 ghost use Rattle.bdb_tables.specs.Writes.{IsChange, with_change, with_changes};
 
-use crate::access::{USUAL_LENGTH, told};
+use crate::access::{USUAL_LENGTH, table_error};
 use crate::room::Room;
 use crate::tab::TabError;
 use bdb_base::Sign;
@@ -134,7 +134,7 @@ fn read_numbered<K: Keeper>(
 {
     match keeper.under(MARKS, prefix, span) {
         Ok(()) => {}
-        Err(error) => return Err(told(error)),
+        Err(error) => return Err(table_error(error)),
     }
     if span.len() == 0 {
         rows.clear();
@@ -183,7 +183,7 @@ fn read_mark<K: Keeper>(
     match keeper.get(MARKS, key, row) {
         Ok(true) => Ok(Some(mark_from(row))),
         Ok(false) => Ok(None),
-        Err(error) => Err(told(error)),
+        Err(error) => Err(table_error(error)),
     }
 }
 
@@ -265,12 +265,12 @@ fn set_mark<K: Keeper>(
             let row = mark_number(mark).to_be_bytes();
             match keeper.put(MARKS, key, &row) {
                 Ok(()) => Ok(()),
-                Err(error) => Err(told(error)),
+                Err(error) => Err(table_error(error)),
             }
         }
         None => match keeper.remove(MARKS, key) {
             Ok(_) => Ok(()),
-            Err(error) => Err(told(error)),
+            Err(error) => Err(table_error(error)),
         },
     }
 }

@@ -7,7 +7,7 @@ ghost use Rattle.bdb_keep.specs.Tables.{bytes_cmp};
 ghost use Rattle.bdb_tables.specs.Codec.{TableFits};
 ghost use Rattle.bdb_tables.specs.Spans.{AreEntriesOf, AreUnder, HasNextUnder, Spell};
 
-use crate::access::{entry_from, told};
+use crate::access::{entry_from, table_error};
 use crate::tab::{Tab, TabError};
 use bdb_keep::{Keeper, Span};
 use std::alloc::{AllocError, Global};
@@ -31,7 +31,7 @@ pub fn rows_under<T: Tab, K: Keeper>(
     let mut span = Span::new(alloc);
     match keeper.under(T::NUMBER, prefix, &mut span) {
         Ok(()) => {}
-        Err(error) => return Err(told(error)),
+        Err(error) => return Err(table_error(error)),
     }
     match entries_from::<T>(alloc, &span) {
         Ok(rows) => Ok(rows),
@@ -76,7 +76,7 @@ pub fn next_under<T: Tab, K: Keeper>(
     match keeper.next(T::NUMBER, low, key, row) {
         Ok(true) => {}
         Ok(false) => return Ok(None),
-        Err(error) => return Err(told(error)),
+        Err(error) => return Err(table_error(error)),
     }
     if !key.starts_with(prefix) {
         return Ok(None);

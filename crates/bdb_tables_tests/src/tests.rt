@@ -1,4 +1,4 @@
-// What stands below sessions, library by library: a module is named for the library that it tests.
+// What stands below sessions: a module for each part.
 mod former;
 mod keep;
 mod key;

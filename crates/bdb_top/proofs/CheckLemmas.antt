@@ -1,23 +1,15 @@
 -- How a check of tables ends.
-use Rattle.std.proofs.Common.{◌≡◌, ℕ, ◌⊎◌, inl, inr, List, [], ◌∷◌, ◌++◌, Option, Some, None, refl, ap, sym, subst}
-use Rattle.std.specs.Io.KnownBytes.{Appends}
+use Rattle.std.proofs.Common.{◌≡◌, ℕ, ◌⊎◌, inl, inr, List, Option, sym, subst}
+use Rattle.std.proofs.KnownBytes.{Appends-nil}
 use Rattle.bdb_keep.specs.Tables.{Tables}
 use Rattle.bdb_top.specs.Checked.{IsChecked}
-
-append_nil : {X : Type 0} (xs : List X) → xs ++ [] ≡ xs
-append_nil [] = refl
-append_nil (x ∷ xs) = ap (λ l. x ∷ l) (append_nil xs)
-
-nothing_grows : (a : Option (List ℕ)) → Appends a a []
-nothing_grows None = tt
-nothing_grows (Some s) = sym (append_nil s)
 
 -- nothing was told
 pub not_checked : (t : Tables) (old : Option (List ℕ)) (status : ℕ) → (status ≡ 5) ⊎ (status ≡ 6) → IsChecked t old old status
 not_checked t old status is = record {
   statuses = elim is [ inl e ↦ inr (inr (inl e)) | inr e ↦ inr (inr (inr (inl e))) ];
   told = λ not_five not_six. absurd (elim is [ inl e ↦ not_five e | inr e ↦ not_six e ]);
-  silent = λ _. nothing_grows old;
+  silent = λ _. Appends-nil old;
 }
 
 -- the same, by what was written and what the status is

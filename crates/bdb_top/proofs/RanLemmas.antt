@@ -1,6 +1,8 @@
 -- How a run ends, by its status.
-use Rattle.std.proofs.Common.{◌≡◌, ◌≢◌, ◌∙◌, ℕ, ◌-◌, ◌^◌, ◌<◌, ◌≤◌, ◌⊎◌, inl, inr, zero, suc, Bool, true, false, List, [], ◌∷◌, ◌++◌, Option, Some, None, Result, Ok, Err, IfSome, IsErrOf, OnOk, length, refl, ap, sym, subst, arith}
-use Rattle.std.specs.Io.KnownBytes.{Appends, IsAtEnd}
+use Rattle.std.proofs.Common.{◌≡◌, ◌≢◌, ◌∙◌, ℕ, ◌-◌, ◌^◌, ◌<◌, ◌≤◌, ◌⊎◌, inl, inr, zero, suc, Bool, true, false, List, [], Option, Some, None, Result, Ok, Err, IfSome, IsErrOf, OnOk, length, refl, ap, sym, subst, arith}
+use Rattle.std.specs.Io.KnownBytes.{Appends}
+use Rattle.std.proofs.lemmas.List.{append-nil}
+use Rattle.std.proofs.KnownBytes.{Appends-nil}
 use Rattle.bdb_base.specs.Bases.{Contents}
 use Rattle.bdb_base.specs.Causes.{Rises}
 use Rattle.bdb_base.specs.Limits.{longest_script}
@@ -18,14 +20,6 @@ use Rattle.bdb_stream.specs.declared.error.RunError.{RunError}
 use Rattle.bdb_stream.specs.declared.error.RunError.TheVariants.{Source, Sink, Keeper, Memory, Large}
 use Rattle.bdb_top.specs.Ran.{EachBase, Ran, RanBy, StandsForNone, CommitsFor}
 use Rattle.bdb_undo.specs.Timelines.{Timeline, started}
-
-append_nil : {X : Type 0} (xs : List X) → xs ++ [] ≡ xs
-append_nil [] = refl
-append_nil (x ∷ xs) = ap (λ l. x ∷ l) (append_nil xs)
-
-pub nothing_grows : (a : Option (List ℕ)) → Appends a a []
-nothing_grows None = tt
-nothing_grows (Some s) = sym (append_nil s)
 
 -- the commits of events, behind that of opening
 commits_on : (k n a m z : ℕ) → Rises n a m → Rises k m z → z < 2 ^ 64 - 1 → k ≡ z - a - n
@@ -71,7 +65,7 @@ module _ {H : Type 0} (m : Handling H) (o : IsInOrder m) (base_at : m.Point → 
 
   -- nothing is written of nothing that is done
   nothing_written : (p : m.Point) (old : Option (List ℕ)) → Appends old old (m.replies p [])
-  nothing_written p old = subst (λ (l : List ℕ). Appends old old l) (sym (o.no_reply p)) (nothing_grows old)
+  nothing_written p old = subst (λ (l : List ℕ). Appends old old l) (sym (o.no_reply p)) (Appends-nil old)
 
   -- a run whose keeper was not opened
   pub closed : (p : m.Point) (text : List ℕ) (first now : Seen) (old : Option (List ℕ)) (status : ℕ)
@@ -91,7 +85,7 @@ module _ {H : Type 0} (m : Handling H) (o : IsInOrder m) (base_at : m.Point → 
     keeps_up = record {
       taken = [];
       consumed = refl;
-      caught = record { first = ([], refl); replied = ([], subst (λ (l : List ℕ). Appends old old l) (sym (append_nil (m.replies p []))) (nothing_written p old)) };
+      caught = record { first = ([], refl); replied = ([], subst (λ (l : List ℕ). Appends old old l) (sym (append-nil (m.replies p []))) (nothing_written p old)) };
       source = λ e. absurd (elim is [ inl f ↦ omega arith | inr f ↦ omega arith ]);
       large = λ e. absurd (elim is [ inl f ↦ omega arith | inr f ↦ omega arith ]);
     };
@@ -219,7 +213,7 @@ not_seven n (Err Memory) is e = omega arith
 not_seven n (Err Large) is e = omega arith
 
 -- 0 and 1 come of an Ok alone
-low_is_ok : {X : Type 0} (n : ℕ) (r : Result Bool RunError) → n ≡ status_of r → n ≤ 1 → OnOk r X → X
+pub low_is_ok : {X : Type 0} (n : ℕ) (r : Result Bool RunError) → n ≡ status_of r → n ≤ 1 → OnOk r X → X
 low_is_ok n (Ok accepted) is low h = h
 low_is_ok n (Err Source) is low h = absurd (omega arith)
 low_is_ok n (Err Sink) is low h = absurd (omega arith)
@@ -237,10 +231,6 @@ large_by n (Err Keeper) is e = absurd (omega arith)
 large_by n (Err Memory) is e = absurd (omega arith)
 large_by n (Err Large) is e = refl
 
-pub taken_by : (n : ℕ) (r : Result Bool RunError) (before left : Option (List ℕ)) → n ≡ status_of r → OnOk r (IsAtEnd left) → OnOk r (IfSome before (λ text. length text ≤ longest_script))
-    → n ≤ 1 → IsAtEnd left × IfSome before (λ text. length text ≤ longest_script)
-taken_by n r before left is end short low = (low_is_ok n r is low end, low_is_ok n r is low short)
-
 too_long : {n : ℕ} → longest_script < n → n ≤ longest_script → ⊥
 too_long h k = omega (arith, h, k)
 
@@ -251,11 +241,7 @@ but_for_large n r is h low = h (λ e. low (is ∙ ap status_of e))
 pub of_large : {X : Type 0} (n : ℕ) (r : Result Bool RunError) → n ≡ status_of r → (IsErrOf r Large → X) → n ≡ 8 → X
 of_large n r is h e = h (large_by n r is e)
 
--- a source that isn't called gives nothing
-pub gives_none : (a : ℕ) → (k : ℕ) × (k ≤ longest_script) × Rises k a a
-gives_none a = (0, omega arith, λ _. omega arith)
-
--- a run over a base and a script that fit, with no fault, comes to its end or wants memory
+-- a run over a base and a script that fit, with no fault, comes to its end, or its memory runs out
 pub finishes_by : (n : ℕ) (before : Option (List ℕ)) (text : List ℕ) → n ≤ 8 → n ≢ 2 → n ≢ 3 → n ≢ 4 → n ≢ 5 → n ≢ 7
     → (n ≡ 8 → IfSome before (λ t. longest_script < length t)) → before ≡ Some text → length text ≤ longest_script → (n ≤ 1) ⊎ (n ≡ 6)
 finishes_by zero before text few a b c d e many is short = inl (omega arith)

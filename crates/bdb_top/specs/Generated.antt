@@ -10,18 +10,18 @@ use Rattle.bdb_undo.specs.Timelines.{Timeline, started}
 use Rattle.bdb_session.specs.Runs.{events_of}
 use Rattle.bdb_session.specs.UndoRuns.{after}
 use Rattle.bdb_top.specs.Lines.{line_with}
-use Rattle.bdb_top.specs.declared.tally.Tally.{Tally}
+use Rattle.bdb_top.specs.declared.tally.ReplyCounts.{ReplyCounts}
 
 -- one, where this holds
 abbrev pub one_if : Bool → ℕ
 one_if test = if test then 1 else 0
 
 -- nothing was replied yet
-abbrev pub no_replies : Tally
+abbrev pub no_replies : ReplyCounts
 no_replies = record { accepted = 0; refused = 0; answers = 0 }
 
 -- the tally with one more reply: its text, whether it accepts, and how many answers it has; an empty one counts as none
-abbrev pub tally_reply : Tally → List ℕ → Bool → ℕ → Tally
+abbrev pub tally_reply : ReplyCounts → List ℕ → Bool → ℕ → ReplyCounts
 tally_reply t text accepted answers = record {
   accepted = t.accepted + one_if (accepted && nat_lt 0 (length text));
   refused = t.refused + one_if (not accepted);
@@ -29,16 +29,16 @@ tally_reply t text accepted answers = record {
 }
 
 -- the tally with the reply to one more event
-abbrev pub tally_with : Tally → Timeline → Event → Tally
+abbrev pub tally_with : ReplyCounts → Timeline → Event → ReplyCounts
 tally_with t s e = tally_reply t (reply_of s e) (accepts s e) (answers_to s e)
 
 -- the tally with the replies to more events
-abbrev pub tally_from : Tally → Timeline → List Event → Tally
+abbrev pub tally_from : ReplyCounts → Timeline → List Event → ReplyCounts
 tally_from t s [] = t
 tally_from t s (e ∷ es) = tally_from (tally_with t s e) (next_state s e) es
 
 -- the lines that tell of a tally and of the base at the end
-abbrev pub summary_text : Tally → ℕ → ℕ → List ℕ
+abbrev pub summary_text : ReplyCounts → ℕ → ℕ → List ℕ
 summary_text t worlds rows =
     line_with (codes "accepted ") t.accepted ++ line_with (codes "refused ") t.refused ++ line_with (codes "worlds ") worlds
     ++ line_with (codes "rows ") rows ++ line_with (codes "answers ") t.answers

@@ -6,11 +6,11 @@ ghost use Rattle.bdb_session.specs.Runs.{events_of};
 ghost use Rattle.bdb_top.specs.Generated.{summary, summary_of, summary_text, IsSummarized};
 
 use crate::lines::append_line;
-use crate::tally::{Tally, tally_script};
+use crate::tally::{ReplyCounts, tally_script};
 use bdb_decode::OpenError;
 use bdb_gen::generate;
 use bdb_io::Sink;
-use bdb_keep::QuietKeeper;
+use bdb_memory::QuietKeeper;
 use bdb_session::{Session, StopError};
 use std::alloc::{AllocError, Global};
 
@@ -69,7 +69,12 @@ fn summary_of(alloc: Global, script: &[u8]) -> Result<Vec<u8>, AllocError>
 }
 
 /// The text of a summary.
-fn summary_text(alloc: Global, tally: Tally, worlds: u64, rows: u64) -> Result<Vec<u8>, AllocError>
+fn summary_text(
+    alloc: Global,
+    tally: ReplyCounts,
+    worlds: u64,
+    rows: u64,
+) -> Result<Vec<u8>, AllocError>
     ensures { IfOk result (λ text. text.items ≡ summary_text tally worlds rows) }
 {
     let mut text = Vec::new(alloc);

@@ -1,7 +1,7 @@
 // Runs over streams of sessions.
-ghost use Rattle.std.specs.Prelude.{◌≡◌, ◌≢◌, ◌<◌, ◌≤◌, ◌+◌, ℕ, ◌⊎◌, false, IfSome, length};
+ghost use Rattle.std.specs.Prelude.{◌≡◌, ◌≢◌, ◌<◌, ◌≤◌, ◌+◌, ◌⊎◌, false, IfSome, length};
 ghost use Rattle.std.specs.Io.KnownBytes.{IsAtEnd};
-ghost use Rattle.bdb_base.specs.Causes.{Rose, Rises, RisesOver};
+ghost use Rattle.bdb_base.specs.Causes.{Rose, Rises, RisesOver, RisesWithin};
 ghost use Rattle.bdb_base.specs.Limits.{longest_script};
 ghost use Rattle.bdb_catalog.specs.Opening.{StandForSome};
 ghost use Rattle.bdb_keep.specs.Seen.{IsStill, NeverFall};
@@ -32,24 +32,28 @@ pub fn run_stream<S: Source, O: Sink, K: Keeper>(
     ensures refused { result ≡ 7 → StandsForNone (K.seen keeper.old).kept }
     ensures none { StandsForNone (K.seen keeper.old).kept → (result ≡ 5) ⊎ (result ≡ 6)
         ⊎ (result ≡ 7) }
-    ensures silent { StandsForNone (K.seen keeper.old).kept → (script.new ≡ script.old)
-        × (out.new ≡ out.old) × IsUntouched (K.seen keeper.old) (K.seen keeper.new) }
+    ensures silent_source { StandsForNone (K.seen keeper.old).kept → script.new ≡ script.old }
+    ensures silent_sink { StandsForNone (K.seen keeper.old).kept → out.new ≡ out.old }
+    ensures silent_keeper { StandsForNone (K.seen keeper.old).kept
+        → IsUntouched (K.seen keeper.old) (K.seen keeper.new) }
     ensures still { IsStill (K.seen keeper.new) }
     ensures base { StandForSome (K.seen keeper.old).kept → StandForSome (K.seen keeper.new).kept }
-    ensures statuses { (result ≤ 8) × (result ≢ 2) }
-    ensures taken { result ≤ 1 → IsAtEnd (S.left script.new) × IfSome (S.left script.old)
+    ensures statuses { result ≤ 8 }
+    ensures worded { result ≢ 2 }
+    ensures ended { result ≤ 1 → IsAtEnd (S.left script.new) }
+    ensures short { result ≤ 1 → IfSome (S.left script.old)
         (λ text. length text ≤ longest_script) }
     ensures source { result ≡ 3 → Rose (S.faults script.old) (S.faults script.new) }
     ensures sink { result ≡ 4 → Rose (O.faults out.old) (O.faults out.new) }
     ensures keeper { result ≡ 5 → Rose (K.seen keeper.old).faults (K.seen keeper.new).faults }
     ensures large { result ≡ 8 → RisesOver longest_script (S.given script.old)
         (S.given script.new) }
-    ensures source_counts { (S.faults script.old ≤ S.faults script.new)
-        × (S.given script.old ≤ S.given script.new) }
+    ensures source_faults { S.faults script.old ≤ S.faults script.new }
+    ensures source_given { S.given script.old ≤ S.given script.new }
     ensures sink_count { O.faults out.old ≤ O.faults out.new }
     ensures keeper_counts { NeverFall (K.seen keeper.old) (K.seen keeper.new) }
     ensures many { result ≡ 8 → IfSome (S.left script.old) (λ text. longest_script < length text) }
-    ensures within { result ≢ 8 → (n : ℕ) × (n ≤ longest_script) × Rises n (S.given script.old)
+    ensures within { result ≢ 8 → RisesWithin longest_script (S.given script.old)
         (S.given script.new) }
     ensures one_more { result ≡ 8 → Rises (longest_script + 1) (S.given script.old)
         (S.given script.new) }

@@ -17,7 +17,7 @@ use std::alloc::{AllocError, Global};
 
 /// How many replies accept, how many refuse, and how many answers they have.
 #[derive(Clone, Copy, Debug, PartialEq, Eq, Drop)]
-pub struct Tally {
+pub struct ReplyCounts {
     pub accepted: u64,
     pub refused: u64,
     pub answers: u64,
@@ -29,7 +29,7 @@ pub fn tally_script<K: Keeper>(
     session: &mut Session,
     keeper: &mut K,
     script: &[u8],
-) -> Result<Tally, StopError>
+) -> Result<ReplyCounts, StopError>
     requires still { IsStill (K.seen keeper.old) }
     requires agrees { RemembersSome (K.seen keeper.old).kept session.old }
     ensures tally { (s : Timeline) → Remembers (K.seen keeper.old).kept session.old s
@@ -43,7 +43,7 @@ pub fn tally_script<K: Keeper>(
     ensures agrees { RemembersSome (K.seen keeper.new).kept session.new }
 {
     let mut cutter = Cutter::new(alloc);
-    let mut tally = Tally {
+    let mut tally = ReplyCounts {
         accepted: 0,
         refused: 0,
         answers: 0,
@@ -71,9 +71,9 @@ pub fn tally_script<K: Keeper>(
 fn tally_piece<K: Keeper>(
     session: &mut Session,
     keeper: &mut K,
-    tally: Tally,
+    tally: ReplyCounts,
     piece: &Piece<'_>,
-) -> Result<Tally, StopError>
+) -> Result<ReplyCounts, StopError>
     requires still { IsStill (K.seen keeper.old) }
     requires agrees { RemembersSome (K.seen keeper.old).kept session.old }
     ensures tally { (s : Timeline) → Remembers (K.seen keeper.old).kept session.old s
@@ -102,9 +102,9 @@ fn tally_piece<K: Keeper>(
 fn tally_rest<K: Keeper>(
     session: &mut Session,
     keeper: &mut K,
-    tally: Tally,
+    tally: ReplyCounts,
     rest: Rest,
-) -> Result<Tally, StopError>
+) -> Result<ReplyCounts, StopError>
     requires still { IsStill (K.seen keeper.old) }
     requires agrees { RemembersSome (K.seen keeper.old).kept session.old }
     ensures tally { (s : Timeline) → Remembers (K.seen keeper.old).kept session.old s
@@ -130,9 +130,9 @@ fn tally_rest<K: Keeper>(
 fn tally_command<K: Keeper>(
     session: &mut Session,
     keeper: &mut K,
-    tally: Tally,
+    tally: ReplyCounts,
     bytes: &[u8],
-) -> Result<Tally, StopError>
+) -> Result<ReplyCounts, StopError>
     requires still { IsStill (K.seen keeper.old) }
     requires agrees { RemembersSome (K.seen keeper.old).kept session.old }
     ensures tally { (s : Timeline) → Remembers (K.seen keeper.old).kept session.old s
@@ -159,9 +159,9 @@ fn tally_command<K: Keeper>(
 fn tally_event<K: Keeper>(
     session: &mut Session,
     keeper: &mut K,
-    tally: Tally,
+    tally: ReplyCounts,
     event: &Event,
-) -> Result<Tally, StopError>
+) -> Result<ReplyCounts, StopError>
     requires still { IsStill (K.seen keeper.old) }
     requires agrees { RemembersSome (K.seen keeper.old).kept session.old }
     ensures tally { (s : Timeline) → Remembers (K.seen keeper.old).kept session.old s
@@ -184,17 +184,17 @@ fn tally_event<K: Keeper>(
 }
 
 /// A tally with one more reply.
-fn with_reply(tally: Tally, reply: &Reply) -> Result<Tally, AllocError>
+fn with_reply(tally: ReplyCounts, reply: &Reply) -> Result<ReplyCounts, AllocError>
     ensures { IfOk result
         (λ next. next ≡ tally_reply tally reply.now.text reply.now.accepted reply.now.answers) }
 {
-    let accepted = added(
+    let accepted = add(
         tally.accepted,
         u64::from(reply.accepted && !reply.text.is_empty()),
     )?;
-    let refused = added(tally.refused, u64::from(!reply.accepted))?;
-    let answers = added(tally.answers, u64::from(reply.answers))?;
-    Ok(Tally {
+    let refused = add(tally.refused, u64::from(!reply.accepted))?;
+    let answers = add(tally.answers, u64::from(reply.answers))?;
+    Ok(ReplyCounts {
         accepted,
         refused,
         answers,
@@ -202,7 +202,7 @@ fn with_reply(tally: Tally, reply: &Reply) -> Result<Tally, AllocError>
 }
 
 /// A count and more. One that doesn't fit is told as out of memory.
-fn added(count: u64, more: u64) -> Result<u64, AllocError>
+fn add(count: u64, more: u64) -> Result<u64, AllocError>
     ensures { IfOk result (λ sum. sum ≡ count + more) }
 {
     match count.checked_add(more) {

@@ -173,12 +173,12 @@ fn files_of<'a>(name: &str, words: &'a [Txt]) -> Option<RunFiles<'a>>
         (λ f. files_of name.now words.now ≡ files (option_copied f.db) (option_copied f.script)) }
 {
     match words {
-        [word] if is_word(word, name) => Some(RunFiles {
+        [word] if is_spelled(word, name) => Some(RunFiles {
             db: None,
             script: None,
         }),
-        [word, option, value] if is_word(word, name) => files_with(option, value),
-        [word, first, a, second, b] if is_word(word, name) => files_by(first, a, second, b),
+        [word, option, value] if is_spelled(word, name) => files_with(option, value),
+        [word, first, a, second, b] if is_spelled(word, name) => files_by(first, a, second, b),
         _ => None,
     }
 }
@@ -192,13 +192,13 @@ fn files_with<'a>(option: &Txt, value: &'a Txt) -> Option<RunFiles<'a>>
     if !is_option_value(value.as_bytes()) {
         return None;
     }
-    if is_word(option, "--db") {
+    if is_spelled(option, "--db") {
         return Some(RunFiles {
             db: Some(value),
             script: None,
         });
     }
-    if is_word(option, "--script") {
+    if is_spelled(option, "--script") {
         return Some(RunFiles {
             db: None,
             script: Some(value),
@@ -213,10 +213,10 @@ fn files_by<'a>(first: &Txt, a: &'a Txt, second: &Txt, b: &'a Txt) -> Option<Run
         (λ f. files_by first.now a.now second.now b.now ≡ files (option_copied f.db)
         (option_copied f.script)) }
 {
-    if is_word(first, "--db") && is_word(second, "--script") {
+    if is_spelled(first, "--db") && is_spelled(second, "--script") {
         return both_files(a, b);
     }
-    if is_word(first, "--script") && is_word(second, "--db") {
+    if is_spelled(first, "--script") && is_spelled(second, "--db") {
         return both_files(b, a);
     }
     None
@@ -243,8 +243,8 @@ pub(crate) fn checked_file(words: &[Txt]) -> Option<&Txt>
 {
     match words {
         [word, option, file]
-            if is_word(word, "check")
-                && is_word(option, "--db")
+            if is_spelled(word, "check")
+                && is_spelled(option, "--db")
                 && is_option_value(file.as_bytes()) => { Some(file) }
         _ => None,
     }
@@ -257,7 +257,7 @@ pub(crate) fn recipe_of(words: &[Txt]) -> Option<Recipe>
     ensures size { IfSome result (λ r. r.size ≤ most_generated) }
 {
     match words {
-        [word, first, a, second, b] if is_word(word, "gen") => recipe_by(first, a, second, b),
+        [word, first, a, second, b] if is_spelled(word, "gen") => recipe_by(first, a, second, b),
         _ => None,
     }
 }
@@ -268,10 +268,10 @@ fn recipe_by(first: &Txt, a: &Txt, second: &Txt, b: &Txt) -> Option<Recipe>
         (λ r. generating_by first.now a.now second.now b.now ≡ Some (Gen r.seed r.size)) }
     ensures size { IfSome result (λ r. r.size ≤ most_generated) }
 {
-    if is_word(first, "--seed") && is_word(second, "--size") {
+    if is_spelled(first, "--seed") && is_spelled(second, "--size") {
         return recipe_from(a.as_bytes(), b.as_bytes());
     }
-    if is_word(first, "--size") && is_word(second, "--seed") {
+    if is_spelled(first, "--size") && is_spelled(second, "--seed") {
         return recipe_from(b.as_bytes(), a.as_bytes());
     }
     None
@@ -348,7 +348,7 @@ fn is_option_value(value: &[u8]) -> bool
 }
 
 /// Whether a word is spelled like this.
-fn is_word(word: &Txt, spelling: &str) -> bool
+fn is_spelled(word: &Txt, spelling: &str) -> bool
     ensures { result ≡ same_text word.now spelling.now }
 {
     word.as_str() == spelling

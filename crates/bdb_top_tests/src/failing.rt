@@ -6,7 +6,8 @@ ghost use Rattle.bdb_keep.specs.Calls.{IsUndo};
 use crate::tests::{SETUP, ran, sink};
 use bdb_base::List;
 use bdb_io::MemSink;
-use bdb_keep::{KeepError, Keeper, KeyEnd, MemKeeper, Span};
+use bdb_keep::{KeepError, Keeper, KeyEnd, Span};
+use bdb_memory::MemKeeper;
 use std::alloc::Global;
 use std::test::Fail;
 

@@ -14,9 +14,11 @@ mod sessions;
 mod undoing;
 mod why;
 
-use bdb_base::{List, Txt};
+use bdb_base::List;
 use bdb_io::{MemSink, MemSource};
-use bdb_keep::{Keeper, MemKeeper};
+use bdb_keep::Keeper;
+use bdb_memory::MemKeeper;
+use bdb_samples::words_of;
 use bdb_top::run;
 use std::alloc::Global;
 use std::test::Fail;
@@ -52,15 +54,6 @@ impl Left {
     fn is_told(&self, replies: &str, status: u8) -> bool {
         self.status == status && self.out.bytes() == replies.as_bytes()
     }
-}
-
-/// The words of a line.
-fn words_of(alloc: Global, line: &str) -> Result<List<Txt>, Fail> {
-    let mut words = List::new(alloc);
-    for word in line.split_whitespace() {
-        words.push(Txt::try_new(alloc, word)?)?;
-    }
-    Ok(words)
 }
 
 fn listed(alloc: Global, numbers: &[u32]) -> Result<List<u32>, Fail> {

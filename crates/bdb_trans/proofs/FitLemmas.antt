@@ -3,9 +3,10 @@ use Rattle.std.proofs.Common.{◌≡◌, ◌∙◌, ℕ, suc, ◌+◌, ◌-◌, 
 use Prim.Native.Nat.{zero}
 use Rattle.std.specs.List.{list_all, slice_get}
 use Rattle.std.specs.Option.{option_and_then, is_some}
-use Rattle.std.proofs.lemmas.Bool.{false≢true, cases_Bool, cond-true, cond-false, or_cases, or_left, and_parts, and_from, eqb-true, lt-ltb}
+use Rattle.std.proofs.lemmas.Bool.{false≢true, cases_Bool, cond-true, cond-false, or_cases, or_left, and_parts, and_from, eqb-true, lt-ltb, or_right}
 use Rattle.std.proofs.lemmas.Bool.Decides.{Decides-eqb, nat_tests}
 use Rattle.std.proofs.lemmas.Option.{slice_get_within}
+use Rattle.std.proofs.lemmas.List.{append-nil}
 use Rattle.bdb_base.specs.declared.kinds.Catalog.{Catalog}
 use Rattle.bdb_base.specs.declared.kinds.ColDef.{ColDef}
 use Rattle.bdb_base.specs.declared.kinds.Cond.{Cond}
@@ -24,12 +25,14 @@ use Rattle.bdb_base.specs.Bases.{is_valid_relation}
 use Rattle.bdb_base.specs.Queries.{columns_at, columns_of_definition}
 use Rattle.bdb_base.specs.Safety.{is_given, is_minus, is_users_item, is_literal, who_fits, fixed_differ, item_fits, item_kinds, column_kind, operand_kind, joins_one_kind, query_fits, IsSafe}
 use Rattle.bdb_base.proofs.ListLemmas.{list_all_get, list_all_weaker, filter_kept_one, filter_dropped_one}
+use Rattle.bdb_base.proofs.UserLemmas.{list_all-filter_both}
+use Rattle.bdb_base.proofs.OptionLemmas.{some_of}
 use Rattle.bdb_plan.specs.declared.step.Step.{Step}
 use Rattle.bdb_plan.specs.declared.step.Step.TheVariants as step
 use Rattle.bdb_plan.specs.Fitness.{Placed, is_among, has_bound, was_bound, is_known, is_set, operand_is_set, who_is_set, is_walked, is_new, comes_next, is_whole, placed_if, with_user, with_walk, with_tuple, bound_count, with_all_bound, placed_after, placed_at_end, takes_set, fits_from, at_first}
 use Rattle.bdb_plan.specs.PlanOf.{differ_from, walk_from, walk_of, bind_of, binds_from, operand_set, all_set, due, item_steps, steps_from, places, is_users, is_plus, is_minus_item, order_of}
 use Rattle.bdb_plan.specs.Sources.{source_of}
-use Rattle.bdb_trans.proofs.HoldLemmas.{some_is, there_in_order, both_there, set_after, comes_set}
+use Rattle.bdb_trans.proofs.HoldLemmas.{there_in_order, both_there, set_after, comes_set}
 use Rattle.bdb_trans.proofs.PlaceLemmas.{from_zero}
 use Rattle.bdb_trans.proofs.SourceLemmas.{move_on, here_at, joined_keeps, conds_keep_kinds, bound_has_source, IsSource, literal, column, source_is}
 
@@ -86,20 +89,10 @@ tests_lead n w p (c ∷ cs) h =
     let k = and_parts (is_set p c.left && operand_is_set p c.right) (list_all (λ c. is_set p c.left && operand_is_set p c.right) cs) h in
     leads_first n w p p p (step.Test c) (map step.Test cs) (if_so (is_set p c.left && operand_is_set p c.right) p k.0) (tests_lead n w p cs k.1)
 
--- what passes two tests, passes in the filtered list what follows from both
-filtered : {X : Type 0} (p q r : X → Bool) → ((x : X) → p x ≡ true → q x ≡ true → r x ≡ true) → (xs : List X) → list_all p xs ≡ true → list_all r (filter q xs) ≡ true
-filtered p q r h [] g = refl
-filtered p q r h (x ∷ xs) g =
-    let k = and_parts (p x) (list_all p xs) g in
-    elim (cases_Bool (q x)) [
-      | inl e ↦ ap (list_all r) (filter_kept_one q x xs e) ∙ and_from (r x) (list_all r (filter q xs)) (h x k.0 e) (filtered p q r h xs k.1)
-      | inr e ↦ ap (list_all r) (filter_dropped_one q x xs e) ∙ filtered p q r h xs k.1
-    ]
-
 -- the tests that are due use what is set, where each column of an item that is there is so
 due_set : (rels : List RelDef) (q : Query) (set : List ℕ) (at : ℕ) (p : Placed) → list_all (joins_one_kind rels q.items) q.conds ≡ true
     → ((r : Ref) → is_among (at ∷ set) r.item ≡ true → is_some (column_kind rels q.items r) ≡ true → is_set p r ≡ true) → list_all (λ c. is_set p c.left && operand_is_set p c.right) (due set at q.conds) ≡ true
-due_set rels q set at p f h = filtered (joins_one_kind rels q.items) (λ c. all_set (at ∷ set) c && not (all_set set c)) (λ c. is_set p c.left && operand_is_set p c.right) one q.conds f
+due_set rels q set at p f h = list_all-filter_both (joins_one_kind rels q.items) (λ c. all_set (at ∷ set) c && not (all_set set c)) (λ c. is_set p c.left && operand_is_set p c.right) one q.conds f
   where
     right : (o : Operand) → operand_set (at ∷ set) o ≡ true → is_some (operand_kind rels q.items o) ≡ true → operand_is_set p o ≡ true
     right (Col r) a k = h r a k
@@ -115,10 +108,6 @@ due_set rels q set at p f h = filtered (joins_one_kind rels q.items) (λ c. all_
 
 itself : (at : ℕ) → nat_eq at at ≡ true
 itself at = (Decides-eqb at at).1 refl
-
-or_set : (a b : Bool) → b ≡ true → (a || b) ≡ true
-or_set true b h = refl
-or_set false b h = h
 
 walk_leads : (n : ℕ) (w : ℕ → ℕ → Bool) (p : Placed) (item : ℕ) (path : List Who) → item < n → list_all (who_is_set (with_walk p item)) path ≡ true
     → Leads n w p (walk_of item path) (with_walk p item)
@@ -141,7 +130,7 @@ among_chosen q (at ∷ set) k h g = elim (or_cases (nat_eq k at) (is_among set k
   | inr m ↦
       let rest = among_chosen q set k m g in
       elim (cases_Bool (is_user_at q at)) [
-        | inl e ↦ ap (λ xs. is_among xs k) (filter_kept_one (is_user_at q) at set e) ∙ or_set (nat_eq k at) (is_among (chosen q set) k) rest
+        | inl e ↦ ap (λ xs. is_among xs k) (filter_kept_one (is_user_at q) at set e) ∙ or_right (nat_eq k at) (is_among (chosen q set) k) rest
         | inr e ↦ ap (λ xs. is_among xs k) (filter_dropped_one (is_user_at q) at set e) ∙ rest
       ]
 ]
@@ -177,7 +166,7 @@ placed rels q set o walk = record { users = chosen q set; items = set; denied = 
 column_within : (rels : List RelDef) (items : List Item) (r : Ref) (alias : List ℕ) (rel : ℕ) (path : List Who) → slice_get items r.item ≡ Some (Rel alias rel Minus path) → is_some (column_kind rels items r) ≡ true
     → r.col < length (columns_at rels rel)
 column_within rels items r alias rel path e h =
-    let k = some_is (slice_get (map (λ c. c.kind) (columns_at rels rel)) r.col) (sym (ap (λ o. is_some (option_and_then (λ item. slice_get (item_kinds rels item) r.col) o)) e) ∙ h) in
+    let k = some_of (slice_get (map (λ c. c.kind) (columns_at rels rel)) r.col) (sym (ap (λ o. is_some (option_and_then (λ item. slice_get (item_kinds rels item) r.col) o)) e) ∙ h) in
     subst (λ m. r.col < m) (map_long (columns_at rels rel)) (slice_get_within (map (λ c. c.kind) (columns_at rels rel)) r.col k.0 k.1)
   where
     map_long : (cols : List ColDef) → length (map (λ c. c.kind) cols) ≡ length cols
@@ -192,7 +181,7 @@ was_bound_more rels q at r h ds rest = by (slice_get q.items at) refl
     minus : (k : ℕ) → (nat_eq r.item at ≡ true → r.col < k) → was_bound ((at, k) ∷ ds) r ≡ true
     minus k f =
         and_from (not (nat_eq r.item at) || nat_lt r.col k) (was_bound ds r) (elim (cases_Bool (nat_eq r.item at)) [
-          | inl e ↦ or_set (not (nat_eq r.item at)) (nat_lt r.col k) (lt-ltb r.col k (f e))
+          | inl e ↦ or_right (not (nat_eq r.item at)) (nat_lt r.col k) (lt-ltb r.col k (f e))
           | inr e ↦ ap (λ b. not b || nat_lt r.col k) e
         ]) rest
 
@@ -288,7 +277,7 @@ bind_leads n w rels q fit set o walk at col given next has =
     let r : Ref = record { item = at; col = col } in
     let p = placed rels q set o walk in
     let end = placed rels q set (Some (at, col + 1)) walk in
-    let src = some_is (source_of rels q r) has.source in
+    let src = some_of (source_of rels q r) has.source in
     let set_there = source_set w rels q fit set o walk given r src.0 has.there (source_is rels q r src.0 src.1) in
     subst (λ x. Leads n w p (bind_of r x) end) (sym src.1)
     (leads_one n w p end (step.Bind at col src.0) (operand_is_set p src.0 && comes_next n p o at col) refl (and_from (operand_is_set p src.0) (comes_next n p o at col) set_there next))
@@ -356,7 +345,7 @@ column_bound : (rels : List RelDef) (q : Query) (set : List ℕ) (walk : Option 
 column_bound rels q set walk at [] r m lt = absurd (omega arith)
 column_bound rels q set walk at (c ∷ cs) r m lt =
     let p = placed rels q set (all_bound at (c ∷ cs)) walk in
-    or_set (is_known p r) (nat_eq r.item at && nat_lt r.col (length (c ∷ cs))) (and_from (nat_eq r.item at) (nat_lt r.col (length (c ∷ cs))) m (lt-ltb r.col (length (c ∷ cs)) lt))
+    or_right (is_known p r) (nat_eq r.item at && nat_lt r.col (length (c ∷ cs))) (and_from (nat_eq r.item at) (nat_lt r.col (length (c ∷ cs))) m (lt-ltb r.col (length (c ∷ cs)) lt))
 
 all_whole : (n : ℕ) (w : ℕ → ℕ → Bool) (rels : List RelDef) (q : Query) (set : List ℕ) (walk : Option ℕ) (at rel : ℕ) (cols : List ColDef) → at < n → is_among set at ≡ false → w rel (length cols) ≡ true
     → is_whole n w (placed rels q set (all_bound at cols) walk) (all_bound at cols) at rel ≡ true
@@ -471,7 +460,7 @@ abbrev Within : List ℕ → List ℕ → Type 0
 Within set more = (k : ℕ) → is_among set k ≡ true → is_among more k ≡ true
 
 within_more : (set : List ℕ) (at : ℕ) → Within set (at ∷ set)
-within_more set at k h = or_set (nat_eq k at) (is_among set k) h
+within_more set at k h = or_right (nat_eq k at) (is_among set k) h
 
 past_end : (all : List Item) (at k : ℕ) → ((i : ℕ) → slice_get all (at + i) ≡ slice_get {X = Item} [] i) → at ≤ k → slice_get all k ≡ None
 past_end all at k h le =
@@ -539,10 +528,6 @@ segment q p (item ∷ items) at set rest h needs new next = elim (cases_Bool (p 
       (λ more m all back. next more m (λ k e le. all k e (past q p k at fails e le)) back))
 ]
 
-append_nothing : (xs : List ℕ) → xs ++ [] ≡ xs
-append_nothing [] = refl
-append_nothing (x ∷ xs) = ap (λ ys. x ∷ ys) (append_nothing xs)
-
 -- what is among nothing
 none_among : (k : ℕ) → is_among [] k ≡ true → ⊥
 none_among k h = false≢true h
@@ -567,7 +552,7 @@ pub order_fits : (catalog : Catalog) (q : Query) → list_all (item_fits catalog
 order_fits catalog q f =
     segment q is_users q.items 0 [] (places is_plus 0 q.items ++ places is_minus_item 0 q.items) (from_zero q.items) users_need (λ k a e. absurd (none_among k a))
     (λ one m users back. segment q is_plus q.items 0 one (places is_minus_item 0 q.items) (from_zero q.items) (plus_need one (λ k e. users k e (least k))) (λ k a e. absurd (not_plus k (only_users k (back k a)) e))
-    (λ two m' plus back'. subst (OrderFits q two) (append_nothing (places is_minus_item 0 q.items))
+    (λ two m' plus back'. subst (OrderFits q two) (append-nil (places is_minus_item 0 q.items))
     (segment q is_minus_item q.items 0 two [] (from_zero q.items)
     (minus_need two (λ k e. m' k (users k e (least k))) (λ k e. plus k e (least k)))
     (λ k a e. absurd (not_minus k (only_given k one (λ b. only_users k (back k b)) (back' k a)) e)) (λ three x y z. tt))))
@@ -679,7 +664,7 @@ plan_is_fit w catalog q whole fits safe =
 
 pub some_column : (rels : List RelDef) (rel : ℕ) → list_all is_valid_relation rels ≡ true → is_some (slice_get rels rel) ≡ true → (c : ColDef) × (cs : List ColDef) × (columns_at rels rel ≡ c ∷ cs)
 some_column rels rel v h =
-    let def = some_is (slice_get rels rel) h in
+    let def = some_of (slice_get rels rel) h in
     let ok = list_all_get is_valid_relation rels rel def.0 v def.1 in
     let few = (and_parts (nat_lt 0 (length def.0.cols)) (nat_le (length def.0.cols) 16) (and_parts (nat_lt 0 (length def.0.cols) && nat_le (length def.0.cols) 16) _ ok).0).0 in
     let first = by def.0.cols few in

@@ -26,8 +26,9 @@ use Rattle.bdb_base.specs.Queries.{columns_at, columns_of_definition}
 use Rattle.bdb_base.specs.Safety.{is_given, is_minus, is_users_item, is_literal, who_fits, fixed_differ, item_fits, item_kinds, column_kind, operand_kind, literal_kind, one_kind, joins_one_kind, query_fits, IsSafe}
 use Rattle.bdb_base.proofs.ListLemmas.{list_all_get, list_all-filter}
 use Rattle.bdb_base.proofs.UserLemmas.{name_found}
+use Rattle.bdb_base.proofs.OptionLemmas.{some_of}
+use Rattle.bdb_base.proofs.BaseLemmas.{as_many_values, fits_its_columns}
 use Rattle.bdb_queries.specs.Slots.{slot_at, known, known_operand, must_hold, must_all_hold, uid_of, path_of, user_tuple}
-use Rattle.bdb_queries.proofs.AnswerLemmas.{fits_its_columns}
 use Rattle.bdb_queries.proofs.FoundLemmas.{Found, found_at, found-filter, found_passes, list_all_from_gets}
 use Rattle.bdb_queries.proofs.HoldingLemmas.{SlotHolds, SlotsHold, items_fit}
 use Rattle.bdb_queries.proofs.UserLemmas.{found_name}
@@ -49,13 +50,9 @@ if_some : (t : Bool) (n m : ℕ) → world_if t n ≡ Some m → t ≡ true
 if_some true n m e = refl
 if_some false n m e = cc
 
-pub some_is : {X : Type 0} (o : Option X) → is_some o ≡ true → (x : X) × (o ≡ Some x)
-some_is None h = absurd (false≢true h)
-some_is (Some x) h = (x, refl)
-
 pub means_holds : {F : Type 0} (sight : Sight) (zs : List (Option Tuple)) (n : ℕ) (xs : List Step) → Means sight zs n xs F → is_some (world_at_end sight zs n xs) ≡ true → F
 means_holds sight zs n xs f h =
-    let m = some_is (world_at_end sight zs n xs) h in
+    let m = some_of (world_at_end sight zs n xs) h in
     f.sound (if_some f.test f.end m.0 (sym f.is ∙ m.1))
 
 pub holds_means : {F : Type 0} (sight : Sight) (zs : List (Option Tuple)) (n : ℕ) (xs : List Step) → Means sight zs n xs F → F → is_some (world_at_end sight zs n xs) ≡ true
@@ -291,7 +288,7 @@ minus_fits : (b : Contents) → IsValid b.catalog b.stmts → (q : Query) → Is
     → (t : Tuple) → slot_at zs i ≡ Some t → t.rel ≡ rel → length t.vals ≡ length (columns_at b.catalog.rels rel) → fits_relation b.catalog.rels t ≡ true
 minus_fits b valid q safe f zs h g i alias rel path item there t is r long =
     let rels = b.catalog.rels in
-    let def = some_is (slice_get rels rel) there in
+    let def = some_of (slice_get rels rel) there in
     let columns : fits_columns (columns_at rels rel) t.vals ≡ true = fits_from_each (columns_at rels rel) t.vals long one in
     ap (λ n. fits_definition (slice_get rels n) t.vals) r ∙ ap (λ o. fits_definition o t.vals) def.1 ∙ sym (ap (λ o. fits_columns (columns_of_definition o) t.vals) def.1) ∙ columns
   where
@@ -301,7 +298,7 @@ minus_fits b valid q safe f zs h g i alias rel path item there t is r long =
         let ref : Ref = record { item = i; col = k } in
         let ck : column_kind rels q.items ref ≡ Some c.kind = ap (option_and_then (λ item. slice_get (item_kinds rels item) k)) item ∙ get_map (columns_at rels rel) k c e in
         let bound = safe ref (record { minus = ap is_minus item; there = ap is_some ck }) in
-        let src = some_is (source_of rels q ref) (bound_has_source rels q f bound (ap is_some ck)) in
+        let src = some_of (source_of rels q ref) (bound_has_source rels q f bound (ap is_some ck)) in
         let source = source_is rels q ref src.0 src.1 in
         let kn : known_operand zs src.0 ≡ Some v = sym (source_known rels q zs h ref src.0 source) ∙ value_of zs i t k is ∙ w in
         source_fits b valid q zs f g ref src.0 c.kind v source ck kn
@@ -382,12 +379,6 @@ slots_long b zs [] (x ∷ xs) h = absurd h
 slots_long b zs (item ∷ items) [] h = absurd h
 slots_long b zs (item ∷ items) (x ∷ xs) h = ap suc (slots_long b zs items xs h.1)
 
-columns_long : (cols : List ColDef) (vals : List Value) → fits_columns cols vals ≡ true → length vals ≡ length cols
-columns_long [] [] f = refl
-columns_long [] (v ∷ vs) f = absurd (false≢true f)
-columns_long (c ∷ cs) [] f = absurd (false≢true f)
-columns_long (c ∷ cs) (v ∷ vs) f = ap suc (columns_long cs vs (and_parts (fits_kind c.kind v) (fits_columns cs vs) f).1)
-
 -- each column of a minus item equals its source
 equal_sources : (rels : List RelDef) (q : Query) (zs : List (Option Tuple)) → must_all_hold zs q.conds ≡ true → (at col : ℕ) (cols : List ColDef) (vals : List Value) → fits_columns cols vals ≡ true
     → ((k : ℕ) (v : Value) → slice_get vals k ≡ Some v → known zs (record { item = at; col = col + k }) ≡ Some v) → EqualSources rels q zs at col cols
@@ -416,7 +407,7 @@ says_of b q zs c at (Some (Rel alias rel Minus path)) h =
     let rels = b.catalog.rels in
     let columns : fits_columns (columns_at rels rel) t.vals ≡ true = ap (λ n. fits_columns (columns_at rels n) t.vals) (sym r) ∙ fits_its_columns (slice_get rels t.rel) t.vals fits in (
       equal_sources rels q zs c at 0 (columns_at rels rel) t.vals columns (λ k v e. value_of zs at t (0 + k) is ∙ from_zero t.vals k ∙ e),
-      (t, is, r, columns_long (columns_at rels rel) t.vals columns, believed),
+      (t, is, r, as_many_values (columns_at rels rel) t.vals columns, believed),
     )
 
 order_says : (b : Contents) (q : Query) (zs : List (Option Tuple)) → must_all_hold zs q.conds ≡ true → ((at : ℕ) → SettingSays b q zs at (slice_get q.items at) × DenyingSays b zs at (slice_get q.items at))

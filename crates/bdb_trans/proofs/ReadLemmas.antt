@@ -28,6 +28,7 @@ use Rattle.bdb_base.specs.declared.kinds.Value.{Value}
 use Rattle.bdb_base.specs.declared.kinds.Who.{Who}
 use Rattle.bdb_base.specs.declared.kinds.Who.TheVariants.{User, Of}
 use Rattle.bdb_base.specs.declared.tuple.Tuple.{Tuple}
+use Rattle.bdb_base.proofs.ListLemmas.{length_map}
 use Rattle.bdb_queries.specs.Slots.{slot_at, known_operand, must_hold, uid_of, path_of, user_tuple, user_tuples}
 use Rattle.bdb_queries.proofs.UserLemmas.{user_of_test}
 use Rattle.bdb_plan.specs.Fitness.{is_among}
@@ -144,10 +145,6 @@ all_of P (x ∷ xs) f = (f x, all_of P xs f)
 all_mapped : {X Y : Type 0} (P : Y → Type 0) (Q : X → Type 0) (g : X → Y) (xs : List X) → ((x : X) → Q x → P (g x)) → AllByRecursion Q xs → AllByRecursion P (map g xs)
 all_mapped P Q g [] f h = tt
 all_mapped P Q g (x ∷ xs) f h = (f x h.0, all_mapped P Q g xs f h.1)
-
-length_mapped : {X Y : Type 0} (g : X → Y) (xs : List X) → length (map g xs) ≡ length xs
-length_mapped g [] = refl
-length_mapped g (x ∷ xs) = ap suc (length_mapped g xs)
 
 fewer_plus : (rows : List (Tuple × Sign)) → length (plus_tuples rows) ≤ length rows
 fewer_plus [] = omega arith
@@ -340,7 +337,7 @@ module _ (b : Contents) (sight : Sight) (number : List ℕ → ℕ) (q : Query) 
         let each = all_mapped (λ x. reads_from sight more x ≤ C) IsUser (with_slot s at) sight.users
         (λ t user. tests_then (at ∷ set) cs rest C h (with_slot s at t) (good_user set s.slots at t lt user g)) sight_users in
         let sum = sum_within (reads_from sight more) (map (with_slot s at) sight.users) C each in
-        let many : length (map (with_slot s at) sight.users) * C ≡ length sight.users * C = ap (λ n. n * C) (length_mapped (with_slot s at) sight.users) in
+        let many : length (map (with_slot s at) sight.users) * C ≡ length sight.users * C = ap (λ n. n * C) (length_map (with_slot s at) sight.users) in
         let bound = users_bound sight.places (length sight.users) u C P few fewer_users le one in
         omega (arith, sum, many, bound)
 
@@ -386,7 +383,7 @@ module _ (b : Contents) (sight : Sight) (number : List ℕ → ℕ) (q : Query) 
             let each = all_mapped (λ x. reads_from sight more x ≤ C) (λ _. Unit {0}) (with_slot here at) pool
             (λ t _. tests_then (at ∷ set) cs rest C h (with_slot here at t) (good_set set (with_slot here at t).slots at other (good_other set s.slots at t other g))) (all_of (λ _. Unit {0}) pool (λ _. tt)) in
             let sum = sum_within (reads_from sight more) (map (with_slot here at) pool) C each in
-            let many : length (map (with_slot here at) pool) * C ≡ length pool * C = ap (λ k. k * C) (length_mapped (with_slot here at) pool) in
+            let many : length (map (with_slot here at) pool) * C ≡ length pool * C = ap (λ k. k * C) (length_map (with_slot here at) pool) in
             let fewer : length pool * C ≤ m at * C = mul-le (length pool) C (m at) C (let f = fewer_plus (sight.rows n rel) in omega (arith, f, rows)) (omega arith) in
             omega (arith, sum, many, fewer, rows)
 

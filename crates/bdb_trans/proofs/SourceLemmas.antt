@@ -1,10 +1,9 @@
 -- Where the values of columns come from.
-use Rattle.std.proofs.Common.{◌≡◌, ◌∙◌, ℕ, suc, ◌+◌, Bool, true, false, ◌&&◌, ◌||◌, nat_eq, List, [], ◌∷◌, ◌++◌, Option, None, Some, inl, inr, refl, ap, sym, subst, find, cond, arith}
+use Rattle.std.proofs.Common.{◌≡◌, ◌∙◌, ℕ, suc, ◌+◌, Bool, true, false, ◌&&◌, ◌||◌, List, [], ◌∷◌, ◌++◌, Option, None, Some, inl, inr, refl, ap, sym, subst, find, cond, arith}
 use Prim.Native.Nat.{zero}
 use Rattle.std.specs.List.{list_any, list_all, slice_get}
 use Rattle.std.specs.Option.{option_map, option_and_then, is_some}
 use Rattle.std.proofs.lemmas.Bool.{false≢true, cases_Bool, cond-true, cond-false, or_cases, or_left, or_right, and_parts, and_from}
-use Rattle.std.proofs.lemmas.Bool.Decides.{Decides-eqb}
 use Rattle.std.proofs.lemmas.List.Folds.{list_any-append}
 use Rattle.bdb_base.specs.declared.kinds.Cmp.TheVariants.{Eq}
 use Rattle.bdb_base.specs.declared.kinds.Cond.{Cond}
@@ -23,8 +22,10 @@ use Rattle.bdb_base.specs.OrderLemmas.{value_exact}
 use Rattle.bdb_base.specs.Safety.{is_given, is_equality, is_literal, is_column, pins, links, same_column, item_kinds, column_kind, operand_kind, one_kind, joins_one_kind, IsBound, given, pinned, linked, equality, first_there}
 use Rattle.bdb_base.specs.SameLemmas.{same_kind-Decides}
 use Rattle.bdb_base.proofs.SetLemmas.{is_eq-Equal, is_eq_itself}
+use Rattle.bdb_base.proofs.LeastLemmas.{find_passes}
+use Rattle.bdb_base.proofs.FindLemmas.{find_all}
+use Rattle.bdb_base.proofs.ConditionLemmas.{same_column_is, same_column_itself, column_is, equality_is}
 use Rattle.bdb_queries.specs.Slots.{known, known_operand, must_hold, must_all_hold}
-use Rattle.bdb_queries.proofs.RangeLemmas.{same_column_is, equality_is}
 use Rattle.bdb_plan.specs.Sources.{renamed, renamed_by, stands_for, joined, pins_chain, columns_from, given_columns, source_of}
 
 -- ---- what equalities keep
@@ -86,29 +87,6 @@ conds_keep_kinds rels items (c ∷ cs) h =
     ((λ y e o. one_kind_is (column_kind rels items c.left) (operand_kind rels items c.right) k.0 ∙ ap (operand_kind rels items) o), conds_keep_kinds rels items cs k.1)
 
 -- ---- finding
-
-pub find_passes : {X : Type 0} (p : X → Bool) (xs : List X) (x : X) → find p xs ≡ Some x → p x ≡ true
-find_passes p [] x e = cc
-find_passes p (y ∷ ys) x e = elim (cases_Bool (p y)) [
-  | inl k ↦
-      let same : Some y ≡ Some x = sym (cond-true (p y) (Some y) (find p ys) k) ∙ e in
-      let is : y ≡ x = cc in
-      ap p (sym is) ∙ k
-  | inr k ↦ find_passes p ys x (sym (cond-false (p y) (Some y) (find p ys) k) ∙ e)
-]
-
--- what all pass, what is found passes
-pub find_all : {X : Type 0} (p q : X → Bool) (xs : List X) (x : X) → list_all q xs ≡ true → find p xs ≡ Some x → q x ≡ true
-find_all p q [] x h e = cc
-find_all p q (y ∷ ys) x h e =
-    let m = and_parts (q y) (list_all q ys) h in
-    elim (cases_Bool (p y)) [
-      | inl k ↦
-          let same : Some y ≡ Some x = sym (cond-true (p y) (Some y) (find p ys) k) ∙ e in
-          let is : y ≡ x = cc in
-          ap q (sym is) ∙ m.0
-      | inr k ↦ find_all p q ys x m.1 (sym (cond-false (p y) (Some y) (find p ys) k) ∙ e)
-    ]
 
 pub found_is_found : {X : Type 0} (p : X → Bool) (xs : List X) → list_any p xs ≡ true → is_some (find p xs) ≡ true
 found_is_found p [] h = absurd (false≢true h)
@@ -189,9 +167,6 @@ given_found rels p (item ∷ items) at (suc k) col g h e =
 
 -- ---- bound columns have a source
 
-pub same_itself : (r : Ref) → same_column r r ≡ true
-same_itself r = and_from (nat_eq r.item r.item) (nat_eq r.col r.col) ((Decides-eqb r.item r.item).1 refl) ((Decides-eqb r.col r.col).1 refl)
-
 -- the source of a column, by the one that stands for it
 abbrev source_by : List RelDef → Query → Ref → Option Operand
 source_by rels q x = first_there (option_map (λ c. c.right) (find (λ c. is_equality c.cmp && (is_literal c.right && same_column x (stands_for q.conds c.left))) q.conds))
@@ -209,10 +184,6 @@ some_map : {X Y : Type 0} (f : X → Y) (o : Option X) → is_some o ≡ true �
 some_map f None h = absurd (false≢true h)
 some_map f (Some x) h = refl
 
-pub column_is : (s : Ref) (o : Operand) → is_column s o ≡ true → o ≡ Col s
-column_is s (Col r) h = ap Col (sym (same_column_is s r h))
-column_is s (Lit v) h = absurd (false≢true h)
-
 same_new : (old new : Ref) → renamed old new new ≡ new
 same_new old new = elim (cases_Bool (same_column new old)) [
   | inl k ↦ cond-true (same_column new old) new new k
@@ -222,7 +193,7 @@ same_new old new = elim (cases_Bool (same_column new old)) [
 renamed_pair : (b : Bool) (o : Operand) (name : Ref → Ref) (left y : Ref) → b ≡ true → o ≡ Col y → renamed_by b o name left left ≡ renamed_by b o name left y
 renamed_pair true (Col z) name left y e h =
     let same : z ≡ y = cc in
-    cond-true (same_column (name left) (name left)) (name z) (name left) (same_itself (name left))
+    cond-true (same_column (name left) (name left)) (name z) (name left) (same_column_itself (name left))
     ∙ sym (ap (λ x. renamed (name left) (name z) (name x)) (sym same) ∙ same_new (name left) (name z))
 renamed_pair true (Lit v) name left y e h = cc
 renamed_pair false o name left y e h = absurd (false≢true e)
@@ -280,7 +251,7 @@ pinned_found all (c ∷ cs) r h = elim (or_cases (pins r c) (list_any (pins r) c
   | inl l ↦
       let k = and_parts (is_equality c.cmp) (same_column r c.left && is_literal c.right) l in
       let m = and_parts (same_column r c.left) (is_literal c.right) k.1 in
-      let j : joined all r c.left ≡ true = ap (λ x. same_column (stands_for all r) (stands_for all x)) (sym (same_column_is r c.left m.0)) ∙ same_itself (stands_for all r) in
+      let j : joined all r c.left ≡ true = ap (λ x. same_column (stands_for all r) (stands_for all x)) (sym (same_column_is r c.left m.0)) ∙ same_column_itself (stands_for all r) in
       or_left (pins_chain all r c) (list_any (pins_chain all r) cs) (and_from (is_equality c.cmp) (is_literal c.right && joined all r c.left) k.0 (and_from (is_literal c.right) (joined all r c.left) m.1 j))
   | inr l ↦ or_right (pins_chain all r c) (list_any (pins_chain all r) cs) (pinned_found all cs r l)
 ]
@@ -291,7 +262,7 @@ bound_has_source rels q f {r} (given g) there =
     let same : 0 + r.item ≡ r.item = omega arith in
     some_second (option_map (λ c. c.right) (find (pins_chain q.conds r) q.conds)) (option_map Col (find (joined q.conds r) (given_columns rels 0 q.items)))
     (some_map Col (find (joined q.conds r) (given_columns rels 0 q.items)) (found_is_found (joined q.conds r) (given_columns rels 0 q.items)
-    (given_found rels (joined q.conds r) q.items 0 r.item r.col g there (ap (λ i. joined q.conds r (record { item = i; col = r.col })) same ∙ same_itself (stands_for q.conds r)))))
+    (given_found rels (joined q.conds r) q.items 0 r.item r.col g there (ap (λ i. joined q.conds r (record { item = i; col = r.col })) same ∙ same_column_itself (stands_for q.conds r)))))
 bound_has_source rels q f {r} (pinned p) there =
     some_first (option_map (λ c. c.right) (find (pins_chain q.conds r) q.conds)) (option_map Col (find (joined q.conds r) (given_columns rels 0 q.items)))
     (some_map (λ c. c.right) (find (pins_chain q.conds r) q.conds) (found_is_found (pins_chain q.conds r) q.conds (pinned_found q.conds q.conds r p)))

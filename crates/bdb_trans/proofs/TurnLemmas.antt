@@ -1,10 +1,10 @@
 -- Steps of loops, and names of columns.
-use Rattle.std.proofs.Common.{◌≡◌, ◌∙◌, ℕ, suc, ◌+◌, ◌<◌, ◌≤◌, ◌^◌, Bool, true, ◌&&◌, nat_lt, List, [], ◌∷◌, ◌++◌, Option, None, Some, refl, ap, sym, subst, length, drop, get_or, cond, find, arith, append_assoc, inl, inr, map}
+use Rattle.std.proofs.Common.{◌≡◌, ◌∙◌, ℕ, suc, ◌+◌, ◌<◌, ◌≤◌, ◌^◌, true, ◌&&◌, nat_lt, List, [], ◌∷◌, ◌++◌, Option, None, Some, refl, ap, sym, subst, length, drop, get_or, find, arith, append_assoc, inl, inr, map}
 use Prim.Native.Nat.{zero}
 use Rattle.std.specs.List.{list_all, slice_get, flat_map}
 use Rattle.std.specs.Option.{option_map}
 use Rattle.std.proofs.lemmas.Bool.{cases_Bool, cond-true, cond-false, and_parts, ltb-true}
-use Rattle.std.proofs.lemmas.List.{drop_more}
+use Rattle.std.proofs.lemmas.List.{drop_more, append-nil}
 use Rattle.bdb_base.specs.declared.kinds.Catalog.{Catalog}
 use Rattle.bdb_base.specs.declared.kinds.Cmp.{Cmp}
 use Rattle.bdb_base.specs.declared.kinds.Cmp.TheVariants.{Eq, Ne, Lt, Le, Gt, Ge}
@@ -19,7 +19,8 @@ use Rattle.bdb_base.specs.declared.kinds.Who.{Who}
 use Rattle.bdb_base.specs.Queries.{columns_at, columns_of_definition}
 use Rattle.bdb_base.specs.Safety.{is_equality, is_literal, same_column, query_fits, first_there}
 use Rattle.bdb_base.proofs.ListLemmas.{list_all_get, filter_kept_one, filter_dropped_one}
-use Rattle.bdb_queries.proofs.RangeLemmas.{same_column_is}
+use Rattle.bdb_base.proofs.FindLemmas.{find_same}
+use Rattle.bdb_base.proofs.ConditionLemmas.{same_column_is}
 use Rattle.bdb_plan.specs.declared.step.Step.{Step}
 use Rattle.bdb_plan.specs.declared.step.Step.TheVariants as step
 use Rattle.bdb_plan.specs.PlanOf.{differ_from, walk_from, setting, denying, due, item_steps}
@@ -65,10 +66,6 @@ few_columns rels rel h = by (slice_get rels rel) (λ def e. list_all_get can_num
 -- a query fits a catalog each of whose relations has columns that can be numbered
 pub columns_are_numbered : (catalog : Catalog) (q : Query) → query_fits catalog q ≡ true → list_all can_number_columns catalog.rels ≡ true
 columns_are_numbered catalog q h = (and_parts (list_all can_number_columns catalog.rels) _ (and_parts (nat_lt (length q.items) (2 ^ 32)) _ h).1).0
-
-find_same : {X : Type 0} (p q : X → Bool) → ((x : X) → p x ≡ q x) → (xs : List X) → find p xs ≡ find q xs
-find_same p q h [] = refl
-find_same p q h (x ∷ xs) = ap (λ b. cond b (Some x) (find p xs)) (h x) ∙ ap (λ o. cond (q x) (Some x) o) (find_same p q h xs)
 
 -- a source by names is the column's source
 pub source_is_named : (rels : List RelDef) (q : Query) (names : List (Ref × Ref)) (given : List Ref) (r : Ref) → AreNames q.conds names → given ≡ given_columns rels 0 q.items
@@ -150,13 +147,9 @@ item_made rels q set at item conds old a b n e h g k =
     let tests : flat_map (due_step set at) conds ≡ d = ap (flat_map (due_step set at)) e ∙ sym (due_are_each set at q.conds) in
     k ∙ ap (λ x. x ++ m) (g ∙ ap (λ x. x ++ flat_map (due_step set at) conds) h ∙ ap (λ x. (old ++ s) ++ x) tests) ∙ append_assoc (old ++ s) d m ∙ append_assoc old s (d ++ m)
 
-no_more : (xs : List Step) → xs ++ [] ≡ xs
-no_more [] = refl
-no_more (x ∷ xs) = ap (λ ys. x ∷ ys) (no_more xs)
-
 pub none_made : (rels : List RelDef) (q : Query) (set : List ℕ) (at : ℕ) (item : Option Item) (conds : List Cond) (old n : List Step) → item ≡ None → conds ≡ q.conds
     → n ≡ old ++ flat_map (due_step set at) conds → n ≡ old ++ item_steps rels q set at item
 none_made rels q set at item conds old n i e h =
     let d = map step.Test (due set at q.conds) in
     let tests : flat_map (due_step set at) conds ≡ d = ap (flat_map (due_step set at)) e ∙ sym (due_are_each set at q.conds) in
-    h ∙ ap (λ x. old ++ x) (tests ∙ sym (no_more d)) ∙ ap (λ o. old ++ item_steps rels q set at o) (sym i)
+    h ∙ ap (λ x. old ++ x) (tests ∙ sym (append-nil d)) ∙ ap (λ o. old ++ item_steps rels q set at o) (sym i)

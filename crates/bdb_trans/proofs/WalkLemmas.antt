@@ -1,18 +1,19 @@
 -- A walk comes to the deepest state at the end of its path, exactly where the path has no equal neighbours.
-use Rattle.std.proofs.Common.{◌≡◌, ◌∙◌, ℕ, Bool, true, false, not, ◌&&◌, ◌||◌, nat_eq, List, [], ◌∷◌, ◌++◌, Option, None, Some, inl, inr, refl, ap, sym, subst, append_assoc, arith}
+use Rattle.std.proofs.Common.{◌≡◌, ◌∙◌, ℕ, Bool, true, false, not, ◌&&◌, ◌||◌, nat_eq, List, [], ◌∷◌, ◌++◌, Option, None, Some, inl, inr, refl, ap, sym, subst, append_assoc}
 use Rattle.std.specs.List.{list_all}
 use Rattle.std.specs.Option.{option_map, option_and_then}
 use Rattle.std.proofs.lemmas.Bool.{cases_Bool, cond-true, cond-false, and_parts}
-use Rattle.std.proofs.lemmas.Bool.Decides.{nat_tests}
 use Rattle.bdb_base.specs.declared.tuple.Tuple.{Tuple}
 use Rattle.bdb_base.specs.declared.kinds.Who.{Who}
 use Rattle.bdb_base.specs.declared.kinds.Who.TheVariants.{User, Of}
 use Rattle.bdb_base.specs.Alternation.{alternates}
 use Rattle.bdb_base.specs.Bases.{Contents, is_user}
 use Rattle.bdb_base.specs.Safety.{fixed_differ, begins_with_another}
-use Rattle.bdb_base.specs.Same.{same_path}
 use Rattle.bdb_base.specs.Segments.{is_suffix}
 use Rattle.bdb_base.specs.States.{is_state, deepest_suffix}
+use Rattle.bdb_base.proofs.BoolLemmas.{and_false}
+use Rattle.bdb_base.proofs.SegmentLemmas.{empty_differs}
+use Rattle.bdb_base.proofs.Numbers.{differs_turned}
 use Rattle.bdb_paths.proofs.StateLemmas.{states_have_prefixes}
 use Rattle.bdb_paths.proofs.SuffixLemmas.{deepest_is_member, suffixes_extend}
 use Rattle.bdb_queries.specs.Slots.{uid_of, path_of}
@@ -28,22 +29,14 @@ use Rattle.bdb_trans.proofs.StepLemmas.{IsTest, end_append, both_tests, first_te
 
 -- ---- ends of paths
 
-and_false : (b : Bool) → (b && false) ≡ false
-and_false true = refl
-and_false false = refl
-
 one_user : (b : Bool) → ((b && true) || false) ≡ b
 one_user true = refl
 one_user false = refl
 
-not_empty : (q : List ℕ) (i : ℕ) → same_path [] (q ++ i ∷ []) ≡ false
-not_empty [] i = refl
-not_empty (k ∷ q) i = refl
-
 last_user : (q : List ℕ) (i j : ℕ) → is_suffix (j ∷ []) (q ++ i ∷ []) ≡ nat_eq j i
 last_user [] i j = one_user (nat_eq j i)
 last_user (k ∷ q) i j =
-    ap (λ b. (nat_eq j k && b) || is_suffix (j ∷ []) (q ++ i ∷ [])) (not_empty q i)
+    ap (λ b. (nat_eq j k && b) || is_suffix (j ∷ []) (q ++ i ∷ [])) (empty_differs q i)
     ∙ ap (λ b. b || is_suffix (j ∷ []) (q ++ i ∷ [])) (and_false (nat_eq j k)) ∙ last_user q i j
 
 -- the deepest suffix of a path that ends in one user does not end in another
@@ -97,9 +90,6 @@ fixed_rest : (before who : Who) (whos : List Who) → fixed_differ (before ∷ w
 fixed_rest (User a) who whos f = (and_parts (begins_with_another a (who ∷ whos)) (fixed_differ (who ∷ whos)) f).1
 fixed_rest (Of a) who whos f = f
 
-turned : (i j : ℕ) → nat_eq i j ≡ false → nat_eq j i ≡ false
-turned i j h = grind (arith, nat_tests)
-
 -- an edge that leads on
 edge_on : (b : Contents) (sight : Sight) (number : List ℕ → ℕ) → Shows b sight number → (zs : List (Option Tuple)) (u : List ℕ) (item j : ℕ) (who : Who) → uid_of zs who ≡ Some j
     → is_user b.catalog.users j ≡ true → is_state b.stmts u ≡ true → is_suffix (j ∷ []) u ≡ false
@@ -135,7 +125,7 @@ walk_on b sight number s zs item q i before (who ∷ whos) w d e u f =
       | inr k ↦
           let extends : deepest_suffix P (deepest_suffix P (q ++ i ∷ []) ++ j ∷ []) ≡ deepest_suffix P ((q ++ i ∷ []) ++ j ∷ []) = sym (suffixes_extend P (states_have_prefixes b.stmts) (q ++ i ∷ []) j) in
           let edge : world_after sight zs here (step.Edge item who) ≡ world_if true there =
-          edge_on b sight number s zs (deepest_suffix P (q ++ i ∷ [])) item j who parts.2 all.0 (deepest_is_member P (q ++ i ∷ []) refl) (ends_otherwise P q i j (turned i j k)) ∙ ap (λ x. Some (number x)) extends in
+          edge_on b sight number s zs (deepest_suffix P (q ++ i ∷ [])) item j who parts.2 all.0 (deepest_is_member P (q ++ i ∷ []) refl) (ends_otherwise P q i j (differs_turned i j k)) ∙ ap (λ x. Some (number x)) extends in
           both_tests sight zs here here end (differ_from item (Some before) who) (step.Edge item who ∷ walk_from item (Some who) whos) (not (nat_eq i j)) (alternates (j ∷ v)) first
           (first_test sight zs here there end (step.Edge item who) (walk_from item (Some who) whos) true (alternates (j ∷ v)) edge rest)
     ])

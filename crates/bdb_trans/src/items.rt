@@ -7,7 +7,7 @@ ghost use Rattle.bdb_plan.specs.Sources.{given_columns};
 ghost use Rattle.bdb_trans.specs.Names.{AreNames, can_number_columns};
 ghost use Rattle.bdb_trans.specs.Steps.{bind_steps, due_step, is_due};
 
-use crate::sources::{columns_of, source_by_names};
+use crate::sources::{columns_at, source_by_names};
 use crate::walks::append_walk;
 use bdb_base::{ColDef, Cond, Exact, Item, List, Operand, Query, Ref, RelDef, Sign};
 use bdb_plan::Step;
@@ -138,7 +138,7 @@ fn append_setting(
                 Ok(())
             }
             Sign::Minus => {
-                append_binds(alloc, scope, steps, at, 0, columns_of(scope.rels, *rel))?;
+                append_binds(alloc, scope, steps, at, 0, columns_at(scope.rels, *rel))?;
                 Ok(())
             }
         },

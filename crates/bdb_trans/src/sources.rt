@@ -60,7 +60,7 @@ fn append_item(
             Ok(())
         }
         Item::Rel { rel, sign, .. } => match sign {
-            Sign::Plus => append_columns(columns, at, 0, columns_of(rels, *rel)),
+            Sign::Plus => append_columns(columns, at, 0, columns_at(rels, *rel)),
             Sign::Minus => Ok(()),
         },
     }
@@ -89,7 +89,7 @@ fn append_columns(
 
 /// The columns of a relation, by its number.
 #[tactic(auto, using(crate::proofs::TurnLemmas::few_columns))]
-pub fn columns_of(rels: &[RelDef], rel: u32) -> &[ColDef]
+pub fn columns_at(rels: &[RelDef], rel: u32) -> &[ColDef]
     requires { list_all can_number_columns rels.now ≡ true }
     ensures columns { result.now ≡ columns_at rels.now rel }
     ensures few { length result.now < 2 ^ 32 }

@@ -1,5 +1,5 @@
 -- A change leads back to the base before it and forth to the one after it.
-use Rattle.std.proofs.Common.{◌≡◌, ◌∙◌, ℕ, ◌-◌, Bool, true, false, not, ◌&&◌, ◌||◌, nat_eq, nat_lt, List, [], ◌∷◌, ◌++◌, Some, refl, ap, sym, subst, inl, inr, length, filter, arith}
+use Rattle.std.proofs.Common.{◌≡◌, ◌∙◌, ℕ, ◌-◌, true, false, not, ◌&&◌, ◌||◌, nat_eq, nat_lt, List, [], ◌∷◌, ◌++◌, Some, refl, ap, sym, subst, inl, inr, length, filter, arith}
 use Rattle.std.specs.List.{list_all}
 use Rattle.std.proofs.lemmas.Bool.{cases_Bool, and_parts, or_parts, or_from, eqb-true, false≢true, lt-ltb}
 use Rattle.std.proofs.lemmas.List.{take_at, length_push, length-set, append_cancel_left}
@@ -19,6 +19,8 @@ use Rattle.bdb_base.proofs.BaseLemmas.{belongs_parts}
 use Rattle.bdb_base.proofs.ListLemmas.{filter_all, list_all_weaker}
 use Rattle.bdb_base.proofs.SetLemmas.{put_adds_member, filter_keeps_order}
 use Rattle.bdb_base.proofs.UserLemmas.{comes_back, drop_user_is_valid, name_found, others_are_users, who_is_gone_is_no_user, who_leaves_is_gone}
+use Rattle.bdb_base.proofs.BoolLemmas.{or_true}
+use Rattle.bdb_base.proofs.UpdateLemmas.{without_keeps_order}
 use Rattle.bdb_undo.specs.declared.change.Change.{Change}
 use Rattle.bdb_undo.specs.declared.change.Named.{Named}
 use Rattle.bdb_undo.specs.declared.change.Named.TheVariants.{Nothing, UserAdded, RelationAdded, UserDropped}
@@ -138,10 +140,6 @@ changes_are_one c d a b l m =
     ∙ ap (change d.named d.gone) (l.come ∙ sym m.come)
 
 -- ---- what was done to a base is a change
-
-or_true : (a : Bool) → (a || true) ≡ true
-or_true true = refl
-or_true false = refl
 
 none_missing : (stmts : List Stmt) → missing_from stmts stmts ≡ []
 none_missing stmts = statements.nothing_missing stmts stmts (λ z k. k)
@@ -280,7 +278,7 @@ back_named c b mid next come e f g = g ∙ ap (λ (m : Contents). contents (name
 
 pub back_sorted : (c : Change) (a b next : Contents) → Leads c a b → next ≡ contents (named_back c.named b.catalog) (without_statements b.stmts c.come)
     → ascending statement_cmp next.stmts ≡ true
-back_sorted c a b next l e = ap (λ (m : Contents). ascending statement_cmp m.stmts) e ∙ statements.without_keeps_order b.stmts c.come l.after.stmts.sorted
+back_sorted c a b next l e = ap (λ (m : Contents). ascending statement_cmp m.stmts) e ∙ without_keeps_order b.stmts c.come l.after.stmts.sorted
 
 pub back_valid : (c : Change) (a b next : Contents) (gone : List Stmt) → Leads c a b → gone ≡ c.gone
     → next ≡ contents (named_back c.named b.catalog) (without_statements b.stmts c.come) → IsValid next.catalog (with_statements next.stmts gone)
@@ -316,7 +314,7 @@ forth_named c a mid next gone e f g = g ∙ ap (λ (m : Contents). contents (nam
 
 pub forth_sorted : (c : Change) (a b next : Contents) → Leads c a b → next ≡ contents (named_forth c.named a.catalog) (without_statements a.stmts c.gone)
     → ascending statement_cmp next.stmts ≡ true
-forth_sorted c a b next l e = ap (λ (m : Contents). ascending statement_cmp m.stmts) e ∙ statements.without_keeps_order a.stmts c.gone l.before.stmts.sorted
+forth_sorted c a b next l e = ap (λ (m : Contents). ascending statement_cmp m.stmts) e ∙ without_keeps_order a.stmts c.gone l.before.stmts.sorted
 
 pub forth_valid : (c : Change) (a b next : Contents) (come : List Stmt) → Leads c a b → come ≡ c.come
     → next ≡ contents (named_forth c.named a.catalog) (without_statements a.stmts c.gone) → IsValid next.catalog (with_statements next.stmts come)

@@ -6,14 +6,16 @@ use Rattle.std.proofs.lemmas.List.{drop_more}
 use Rattle.std.proofs.lemmas.Map.Views.{any-filter_same}
 use Rattle.bdb_base.specs.declared.kinds.Catalog.{Catalog}
 use Rattle.bdb_base.specs.declared.kinds.Stmt.{Stmt}
-use Rattle.bdb_base.specs.Bases.{AreStatements, IsValid, stands, with_statement, without_statement}
+use Rattle.bdb_base.specs.Bases.{AreStatements, IsValid, stands, with_statement}
 use Rattle.bdb_base.specs.Changes.{with_statements, without_statements}
 use Rattle.bdb_base.specs.Order.{statement_cmp}
 use Rattle.bdb_base.specs.OrderLemmas.{statement_exact}
 use Rattle.bdb_base.specs.SortedSet.{ascending, sorted_set}
 use Rattle.bdb_base.proofs.BaseLemmas.{filter_is_valid}
 use Rattle.bdb_base.proofs.ListLemmas.{or_move, filter_dropped_one}
-use Rattle.bdb_base.proofs.SetLemmas.{is_eq-Equal, is_eq_itself, members_make_set, put_keeps_order, take_keeps_order, filter_keeps_order, put_adds_member, take_drops_member, set_is_ascending, set_keeps_members}
+use Rattle.bdb_base.proofs.SetLemmas.{is_eq-Equal, is_eq_itself, members_make_set, put_keeps_order, filter_keeps_order, put_adds_member, set_is_ascending, set_keeps_members}
+use Rattle.bdb_base.proofs.UpdateLemmas.{with_keeps_order, without_keeps_order, stands_without}
+use Rattle.bdb_base.proofs.BoolLemmas.{or_true}
 use Rattle.bdb_undo.specs.Changes.{missing_from}
 use Rattle.bdb_undo.specs.ChangeLaws.{FewerAreValid}
 
@@ -25,17 +27,6 @@ stands_with stmts (x ∷ xs) z = stands_with (with_statement stmts x) xs z
     ∙ ap (λ b. stands xs z || b) (put_adds_member statement_exact stmts x z)
     ∙ sym (or_move (is_eq (statement_cmp x z)) (stands xs z) (stands stmts z))
 
-pub stands_without : (stmts xs : List Stmt) (z : Stmt) → stands (without_statements stmts xs) z ≡ (not (stands xs z) && stands stmts z)
-stands_without stmts [] z = refl
-stands_without stmts (x ∷ xs) z = stands_without (without_statement stmts x) xs z
-    ∙ ap (λ b. not (stands xs z) && b) (take_drops_member statement_exact stmts x z)
-    ∙ neither (is_eq (statement_cmp x z)) (stands xs z) (stands stmts z)
-  where
-    neither : (a b c : Bool) → (not b && (not a && c)) ≡ (not (a || b) && c)
-    neither true true c = refl
-    neither true false c = refl
-    neither false b c = refl
-
 -- of the statements that pass a test those stand that pass it
 pub stands_filter : (q : Stmt → Bool) (stmts : List Stmt) (z : Stmt) → stands (filter q stmts) z ≡ (q z && stands stmts z)
 stands_filter q stmts z = any-filter_same (λ y. is_eq (statement_cmp y z)) q (q z)
@@ -45,14 +36,6 @@ pub stands_missing : (others stmts : List Stmt) (z : Stmt) → stands (missing_f
 stands_missing others stmts z = stands_filter (λ x. not (stands others x)) stmts z
 
 -- ---- their order
-
-pub with_keeps_order : (stmts xs : List Stmt) → ascending statement_cmp stmts ≡ true → ascending statement_cmp (with_statements stmts xs) ≡ true
-with_keeps_order stmts [] h = h
-with_keeps_order stmts (x ∷ xs) h = with_keeps_order (with_statement stmts x) xs (put_keeps_order statement_exact stmts x h)
-
-pub without_keeps_order : (stmts xs : List Stmt) → ascending statement_cmp stmts ≡ true → ascending statement_cmp (without_statements stmts xs) ≡ true
-without_keeps_order stmts [] h = h
-without_keeps_order stmts (x ∷ xs) h = without_keeps_order (without_statement stmts x) xs (take_keeps_order statement_exact stmts x h)
 
 pub missing_keeps_order : (others stmts : List Stmt) → ascending statement_cmp stmts ≡ true → ascending statement_cmp (missing_from others stmts) ≡ true
 missing_keeps_order others stmts h = filter_keeps_order statement_exact (λ x. not (stands others x)) stmts h
@@ -112,10 +95,6 @@ fewer_are_valid c stmts fewer v g among =
 pub fewer_before : (c : Catalog) (stmts xs : List Stmt) → ascending statement_cmp stmts ≡ true → IsValid c (with_statements stmts xs) → IsValid c stmts
 fewer_before c stmts xs h v = fewer_are_valid c (with_statements stmts xs) stmts v h
     (λ z k. stands_with stmts xs z ∙ ap (λ b. stands xs z || b) k ∙ or_true (stands xs z))
-  where
-    or_true : (a : Bool) → (a || true) ≡ true
-    or_true true = refl
-    or_true false = refl
 
 -- what is left of a list is valid where the next list is
 pub left_is_valid_after : (c : Catalog) (stmts next : List Stmt) → ascending statement_cmp stmts ≡ true → IsValid c next

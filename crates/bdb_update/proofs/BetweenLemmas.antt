@@ -1,20 +1,20 @@
 -- Where parts of tables differ, and how many of these places there are at most.
-use Rattle.std.proofs.Common.{◌≡◌, ◌≢◌, ◌∙◌, ℕ, ◌+◌, ◌≤◌, Bool, true, false, not, ◌||◌, nat_eq, cond, List, [], ◌∷◌, ◌++◌, ◌⊎◌, length, filter, Option, None, refl, sym, ap, arith, inl, inr}
+use Rattle.std.proofs.Common.{◌≡◌, ◌≢◌, ◌∙◌, ℕ, ◌+◌, ◌≤◌, Bool, true, false, not, nat_eq, cond, List, [], ◌∷◌, ◌++◌, ◌⊎◌, length, filter, Option, None, refl, sym, ap, arith, inl, inr}
 use Rattle.std.specs.List.{AllByRecursion}
 use Rattle.std.specs.FinMap as tables
-use Rattle.std.proofs.lemmas.Bool.{cases_Bool, false≢true, false_from_ne_true, or_left, or_right, or_cases, cond-true, cond-false, eqb-true, not-true}
+use Rattle.std.proofs.lemmas.Bool.{cases_Bool, false≢true, false_from_ne_true, or_left, or_right, or_cases, cond-true, cond-false, eqb-true, not-true, or_parts}
 use Rattle.std.proofs.lemmas.List.Folds.{list_any-append}
 use Rattle.bdb_base.specs.Bases.{are_distinct}
 use Rattle.bdb_base.specs.Same.{same_text}
 use Rattle.bdb_base.specs.SameLemmas.{same_text-Decides}
+use Rattle.bdb_base.proofs.BoolLemmas.{not_twice}
 use Rattle.bdb_keep.specs.Tables.{Tables}
 use Rattle.bdb_tables.specs.Differences.{AreDifferences}
-use Rattle.bdb_tables.proofs.DifferenceLemmas.{is_among, no_more}
+use Rattle.bdb_tables.proofs.DifferenceLemmas.{is_among, no_more, distinct_append}
 use Rattle.bdb_val.specs.Others.{SameBut, is_in}
 use Rattle.bdb_update.specs.Bounds.{part_at}
 use Rattle.bdb_update.specs.Tallies.{HasRowCount, vals_at, nothing_at}
-use Rattle.bdb_update.proofs.RowLemmas.{append_distinct}
-use Rattle.bdb_update.proofs.TallyLemmas.{Places, rows_alone, filter_parts, filter_distinct, not_twice, among_passing, all_filter, all_of, all_weaker, all_among, length_append, same_row, same_row_is, same_row_from}
+use Rattle.bdb_update.proofs.TallyLemmas.{Places, rows_alone, filter_parts, filter_distinct, among_passing, all_filter, all_of, all_weaker, all_among, length_append, same_row, same_row_is, same_row_from}
 
 abbrev pub Look : Type 0
 Look = List ℕ → Option (List ℕ)
@@ -62,17 +62,13 @@ module _ (f g : Look) (cs bs : Places) (a : AreDifferences f nothing_at cs) (b :
 
   none_at : (q : List ℕ) → is_among q either ≡ false → f q ≡ g q
   none_at q out =
-      let parts = neither (is_among q cs) (is_among q (filter fresh bs)) (sym (list_any-append (same_text q) cs (filter fresh bs)) ∙ out) in
+      let parts = or_parts (is_among q cs) (is_among q (filter fresh bs)) (sym (list_any-append (same_text q) cs (filter fresh bs)) ∙ out) in
       let absent : is_among q bs ≡ false = false_from_ne_true (is_among q bs) (λ e. false≢true (sym parts.1 ∙ among_passing fresh q bs e (ap not parts.0))) in
       a.only q parts.0 ∙ sym (b.only q absent)
-    where
-      neither : (x y : Bool) → (x || y) ≡ false → (x ≡ false) × (y ≡ false)
-      neither true y e = absurd (false≢true (sym e))
-      neither false y e = (refl, e)
 
   pub are_between : AreDifferences f g between
   are_between = record {
-    once = filter_distinct differs either (append_distinct cs (filter fresh bs) a.once (filter_distinct fresh bs b.once) apart);
+    once = filter_distinct differs either (distinct_append cs (filter fresh bs) a.once (filter_distinct fresh bs b.once) apart);
     each = all_filter (λ q. f q ≢ g q) differs either (all_of (λ q. differs q ≡ true → f q ≢ g q) unlike either);
     only = λ q out. elim (cases_Bool (differs q)) [
       | inr e ↦ alike q e

@@ -10,7 +10,7 @@ use Rattle.bdb_tables.specs.Names.{path_of}
 use Rattle.bdb_tables.specs.Rows.{row_for}
 use Rattle.bdb_tables.specs.Stored.{SameBut}
 use Rattle.bdb_val.specs.Others as others
-use Rattle.bdb_worlds.specs.Bounds.{RisesWithin}
+use Rattle.bdb_worlds.specs.Bounds.{EndsWithin}
 use Rattle.bdb_update.specs.Bounds.{RowWrites, StateWrites, WritesWithin}
 use Rattle.bdb_update.specs.Keeping.{KeepsNames, KeepsTuples}
 use Rattle.bdb_update.specs.Calls.{with_one, without_one}
@@ -34,7 +34,7 @@ as_tables test t u same n k out = same (n ∷ k) out
 module _ (old a b new : Seen) (x : Stmt) (worlds wid rows : ℕ) (some : SomeMayJoin old.kept x worlds)
     (arrive : Arrive old.kept a.kept x wid) (came : CountsArrived old.kept a.kept x rows) (names : KeepsNames old.kept a.kept) (of_worlds : SameBut is_of_worlds old.kept a.kept)
     (first : StateWrites (length x.path + 2) rows old a)
-    (numbers : Numbers a.kept b.kept x) (keeps : KeepsTuples a.kept b.kept) (second : RisesWithin 2 a.writes b.writes) (tuples : others.SameBut is_of_tuples a.kept b.kept)
+    (numbers : Numbers a.kept b.kept x) (keeps : KeepsTuples a.kept b.kept) (second : EndsWithin 2 a.writes b.writes) (tuples : others.SameBut is_of_tuples a.kept b.kept)
     (settles : Settles b.kept new.kept x) (third : RowWrites 2 b new) (alone : others.SameBut rows_alone b.kept new.kept) (later : a.writes ≤ b.writes) (last : b.writes ≤ new.writes) where
   pub join_within : WritesWithin (length x.path + 2) 8 old new
   join_within =
@@ -57,7 +57,7 @@ module _ (old a b new : Seen) (x : Stmt) (rows : ℕ) (some : SomeMayPart old.ke
     (parts : Parts old.kept a.kept x) (first : RowWrites 2 old a) (alone : others.SameBut rows_alone old.kept a.kept)
     (loses : LosesWorlds a.kept b.kept x) (went : LosesRows a.kept b.kept rows) (names : KeepsNames b.kept a.kept) (of_worlds : SameBut is_of_worlds a.kept b.kept)
     (second : StateWrites (length x.path + 2) rows a b)
-    (third : RisesWithin 2 b.writes new.writes) (tuples : others.SameBut is_of_tuples b.kept new.kept) (later : a.writes ≤ b.writes) (last : b.writes ≤ new.writes) where
+    (third : EndsWithin 2 b.writes new.writes) (tuples : others.SameBut is_of_tuples b.kept new.kept) (later : a.writes ≤ b.writes) (last : b.writes ≤ new.writes) where
   pub leave_within : WritesWithin (length x.path + 2) 8 old new
   leave_within =
       let c = some.base in

@@ -9,7 +9,9 @@ use Rattle.bdb_base.specs.Worlds.{contradicted, IsConsistent}
 use Rattle.bdb_base.specs.declared.kinds.Sign.{Sign}
 use Rattle.bdb_base.specs.declared.kinds.Stmt.{Stmt}
 use Rattle.bdb_base.specs.declared.tuple.Tuple.{Tuple}
+use Rattle.bdb_base.proofs.OptionLemmas.{one_there}
 use Rattle.bdb_keep.specs.Tables.{Tables}
+use Rattle.bdb_keep.proofs.RowsLemmas.{same_place}
 use Rattle.bdb_key.specs.Grammar.{IsNum}
 use Rattle.bdb_key.specs.Rows.{IsAnyMark}
 use Rattle.bdb_key.proofs.Forms.{tied}
@@ -20,7 +22,6 @@ use Rattle.bdb_tables.specs.Names.{Names, path_of, number_of, is_named, link_of,
 use Rattle.bdb_tables.specs.Rows.{Tuples, HoldsTuples, HoldsRows, row_for, AreKeyLengths}
 use Rattle.bdb_tables.specs.States.{HoldsStates}
 use Rattle.bdb_tables.specs.Writes.{with_change, with_row_at}
-use Rattle.bdb_tables.proofs.Held.{same_place}
 use Rattle.bdb_tables.proofs.WriteLemmas.{change_gives, change_elsewhere}
 use Rattle.bdb_val.specs.Groups.{IsUnsettled, is_near}
 use Rattle.bdb_val.specs.Middle.{worlds_of, IsSettledAt}
@@ -40,9 +41,6 @@ row_sign (Some s) = refl
 row_fits : (o : Option Sign) → MatchOption (explicit_row o) (Unit {0}) IsAnyMark
 row_fits None = tt
 row_fits (Some s) = tt
-
-same_some : {X : Type 0} (x y : X) (o : Option X) → o ≡ Some x → o ≡ Some y → x ≡ y
-same_some x y o a b = cc
 
 module _ (keys : ℕ → ℕ) (stmts next told : List Stmt) (users : ℕ → Bool) (ns : Names) (ts : Tuples) (t : Tables) (w : List ℕ) (u : Tuple) (wid tid : ℕ)
     (lengths : AreKeyLengths keys) (states : HoldsStates users ns t) (tuples : HoldsTuples told ts t) (rows : HoldsRows keys stmts (path_of ns) ts.tuple t)
@@ -69,10 +67,10 @@ module _ (keys : ℕ → ℕ) (stmts next told : List Stmt) (users : ℕ → Boo
   world_num m v p = states.names.sized v m (states.names.named m v p)
 
   one_world : (m : ℕ) (v : List ℕ) → path_of ns m ≡ Some v → v ≡ w → m ≡ wid
-  one_world m v p e = same_some m wid (number_of ns w) (ap (number_of ns) (sym e) ∙ states.names.named m v p) (states.names.named wid w path)
+  one_world m v p e = one_there m wid (number_of ns w) (ap (number_of ns) (sym e) ∙ states.names.named m v p) (states.names.named wid w path)
 
   one_tuple : (i : ℕ) (y : Tuple) → ts.tuple i ≡ Some y → y ≡ u → i ≡ tid
-  one_tuple i y n e = same_some i tid (ts.number u) (ap ts.number (sym e) ∙ tuples.named i y n) (tuples.named tid u name)
+  one_tuple i y n e = one_there i tid (ts.number u) (ap ts.number (sym e) ∙ tuples.named i y n) (tuples.named tid u name)
 
   before : HasRows keys ts.tuple held t
   before = record { lengths = lengths; tuples = tuples.tuples; rows = rows; sized = tuples.sized; keyed = λ k v s. (held_names keys stmts told ns ts t tuples k s).1 }
@@ -127,8 +125,8 @@ module _ (keys : ℕ → ℕ) (stmts next told : List Stmt) (users : ℕ → Boo
   says m i v y p n e =
       let j : m ≡ wid = ap (λ (z : ValKey). z.0) e in
       let k : i ≡ tid = ap (λ (z : ValKey). z.3) e in
-      let a : v ≡ w = same_some v w (path_of ns wid) (ap (path_of ns) (sym j) ∙ p) path in
-      let b : y ≡ u = same_some y u (ts.tuple tid) (ap ts.tuple (sym k) ∙ n) name in
+      let a : v ≡ w = one_there v w (path_of ns wid) (ap (path_of ns) (sym j) ∙ p) path in
+      let b : y ≡ u = one_there y u (ts.tuple tid) (ap ts.tuple (sym k) ∙ n) name in
       ap (λ z. explicit_sign next z y) a ∙ ap (explicit_sign next w) b
 
   changed_explicit : (m : ℕ) (v : List ℕ) (i : ℕ) (y : Tuple) → path_of ns m ≡ Some v → ts.tuple i ≡ Some y → explicit_of (changed (row_key keys m i y)) ≡ explicit_sign next v y

@@ -90,7 +90,7 @@ module _ (t : Tables) (c : Counts) (w : List ℕ) (gone come : List Stmt) (x : S
         next = next_is_valid b.catalog b.stmts w gone come (may_replace t c w gone come b m) k.0 k.1;
       }
 
-untouched : (old new : Seen) (c : Counts) → IsQuiet old new → IsUntouched old new c c
+pub untouched : (old new : Seen) (c : Counts) → IsQuiet old new → IsUntouched old new c c
 untouched old new c q = record { kept = q.kept; writes = q.writes; counts = refl; goes_on = q.goes }
 
 module _ (old mid : Seen) (c : Counts) (w : List ℕ) (gone come : List Stmt) (x : Stmt) (first : slice_get gone 0 ≡ Some x) (q : IsQuiet old mid) where

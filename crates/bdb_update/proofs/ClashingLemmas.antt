@@ -1,17 +1,16 @@
 -- Over statements in order the first that clashes with another is the first that clashes with a neighbour ahead.
-use Rattle.std.proofs.Common.{◌≡◌, ◌∙◌, ◌⊎◌, ℕ, zero, suc, Bool, true, false, not, ◌&&◌, ◌||◌, nat_eq, cond, List, [], ◌∷◌, Some, take, find, refl, ap, sym, subst, arith, inl, inr}
+use Rattle.std.proofs.Common.{◌≡◌, ◌∙◌, ◌⊎◌, ℕ, zero, suc, Bool, true, false, not, ◌&&◌, ◌||◌, nat_eq, cond, List, [], ◌∷◌, Some, take, find, refl, ap, sym, subst, inl, inr}
 use Rattle.std.specs.List.{list_all}
 use Rattle.std.specs.declared.cmp.Ordering.{Ordering}
 use Rattle.std.specs.declared.cmp.Ordering.TheVariants.{Less, Equal, Greater}
 use Rattle.std.specs.Ordering.{nat_cmp, is_eq, is_gt, is_lt, ordering_then}
 use Rattle.std.specs.Cmp.{IsTotalOrder}
 use Rattle.std.proofs.lemmas.Bool.{cases_Bool, and_parts, and_from, or_from, false≢true, true≢false, false_from_ne_true, eqb-true, cond-true, cond-false}
-use Rattle.std.proofs.lemmas.Bool.Decides.{nat_tests}
 use Rattle.std.proofs.lemmas.Cmp.{then_total, on_total, nat_cmp_total, alike_right, tied_itself}
 use Rattle.bdb_base.specs.Changes.{first_clashing}
 use Rattle.bdb_base.specs.Clash.{clash, key_of, same_key}
 use Rattle.bdb_base.specs.Order.{value_cmp, row_cmp, path_cmp, tuple_cmp, sign_cmp, statement_cmp}
-use Rattle.bdb_base.specs.OrderLemmas.{path_total, row_total, is_eq_path_cmp, is_eq_tuple_cmp, is_eq_row_cmp}
+use Rattle.bdb_base.specs.OrderLemmas.{path_total, row_total, is_eq_path_cmp, is_eq_tuple_cmp, is_eq_row_cmp, is_eq_nat_cmp, is_eq-then}
 use Rattle.bdb_base.specs.Same.{same_path, same_tuple, same_sign}
 use Rattle.bdb_base.specs.SameLemmas.{same_path-Decides, same_tuple-Decides}
 use Rattle.bdb_base.specs.SortedSet.{ascending}
@@ -36,14 +35,6 @@ group_cmp keys a b = ordering_then (path_cmp a.path b.path) (ordering_then (nat_
 group_total : (keys : ℕ → ℕ) → IsTotalOrder (group_cmp keys)
 group_total keys = then_total (on_total (λ (x : Stmt). x.path) path_total)
     (then_total (on_total (λ (x : Stmt). x.tuple.rel) nat_cmp_total) (on_total (λ (x : Stmt). key_of keys x.tuple) row_total))
-
-is_eq_nat_cmp : (m n : ℕ) → is_eq (nat_cmp m n) ≡ nat_eq m n
-is_eq_nat_cmp m n = grind (arith, nat_tests)
-
-is_eq-then : (p q : Ordering) → is_eq (ordering_then p q) ≡ (is_eq p && is_eq q)
-is_eq-then Less q = refl
-is_eq-then Equal q = refl
-is_eq-then Greater q = refl
 
 same_key_is : (keys : ℕ → ℕ) (t u : Tuple) → same_key keys t u ≡ is_eq (ordering_then (nat_cmp t.rel u.rel) (row_cmp (key_of keys t) (key_of keys u)))
 same_key_is keys t u = sym (is_eq-then (nat_cmp t.rel u.rel) (row_cmp (key_of keys t) (key_of keys u))
@@ -125,7 +116,7 @@ same_key_itself keys t u e =
     let one : t ≡ u = (same_tuple-Decides t u).0 e in
     ap (same_key keys t) (sym one) ∙ same_key_is keys t t ∙ ap is_eq (tied_itself (then_total (on_total (λ (v : Tuple). v.rel) nat_cmp_total) (on_total (λ (v : Tuple). key_of keys v) row_total)) t)
 
-clash_is_of_key : (keys : ℕ → ℕ) (t u : Tuple) (a b : Sign) → clash keys t a u b ≡ true → same_key keys t u ≡ true
+pub clash_is_of_key : (keys : ℕ → ℕ) (t u : Tuple) (a b : Sign) → clash keys t a u b ≡ true → same_key keys t u ≡ true
 clash_is_of_key keys t u Plus Plus h = (and_parts (same_key keys t u) (not (same_tuple t u)) h).0
 clash_is_of_key keys t u Plus Minus h = same_key_itself keys t u h
 clash_is_of_key keys t u Minus Plus h = same_key_itself keys t u h

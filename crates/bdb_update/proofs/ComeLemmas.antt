@@ -1,21 +1,16 @@
 -- How many rows there are while worlds that have come get theirs.
-use Rattle.std.proofs.Common.{◌≡◌, ◌≢◌, ◌∙◌, ℕ, suc, ◌+◌, ◌≤◌, Bool, true, false, not, ◌||◌, nat_eq, cond, List, [], ◌∷◌, ◌++◌, length, take, filter, Option, Some, None, is_some, refl, sym, ap, subst, arith}
+use Rattle.std.proofs.Common.{◌≡◌, ◌≢◌, ◌∙◌, ℕ, suc, ◌+◌, ◌≤◌, Bool, true, false, not, ◌||◌, nat_eq, cond, List, [], ◌∷◌, ◌++◌, length, take, Option, Some, None, is_some, refl, sym, ap, arith}
 use Rattle.std.specs.Prelude.{sum_by}
 use Rattle.std.specs.List.{AllByRecursion}
 use Rattle.std.specs.Option.{option_map}
-use Rattle.bdb_base.specs.Causes.{Rises}
 use Rattle.std.specs.FinMap as tables
 use Rattle.std.proofs.lemmas.Bool.{and_from}
 use Rattle.bdb_base.specs.declared.kinds.Stmt.{Stmt}
-use Rattle.bdb_keep.specs.Seen.{Seen}
 use Rattle.bdb_keep.specs.Tables.{Tables}
-use Rattle.bdb_tables.specs.Differences.{AreDifferences}
 use Rattle.bdb_tables.specs.InUse.{val_codec}
 use Rattle.bdb_tables.specs.Names.{Names, path_of, is_listed, are_once, with_name}
 use Rattle.bdb_tables.specs.Rows.{HoldsRows, row_named}
 use Rattle.bdb_tables.proofs.DifferenceLemmas.{differences_are_counted}
-use Rattle.bdb_val.specs.Counts.{TellsDifferences, has_none}
-use Rattle.bdb_val.specs.Steps.{counted as capped}
 use Rattle.bdb_val.specs.WorldCopies.{IsBare}
 use Rattle.bdb_worlds.specs.Growth.{with_prefixes, AreLeast}
 use Rattle.bdb_update.specs.Filling.{AreTold, Before, HaveCome, names_now}
@@ -109,17 +104,3 @@ module _ (s : Before) (told : List Stmt) (t now : Tables) (xs ys : List ℕ) (c 
 pub bare : (s : Before) (ns : Names) (now : Tables) (wid : ℕ) → HoldsRows s.keys s.stmts (path_of ns) s.tuples.tuple now → path_of ns wid ≡ None → IsBare now wid
 bare s ns now wid rows none k v e =
     rows.rows k v ∙ ap (option_map val_codec.row_bytes) (ap (λ p. row_named s.keys s.stmts k p (s.tuples.tuple k.3)) (ap (path_of ns) e ∙ none))
-
-counted_in : Tables → List (List ℕ) → ℕ
-counted_in t ps = capped (length (filter (has_none t) ps))
-
--- what is told of differences, where tables were only read before
-pub told_back : (old mid new : Seen) (put taken : ℕ) → mid.kept ≡ old.kept → mid.writes ≡ old.writes → TellsDifferences mid new put taken → TellsDifferences old new put taken
-unfolding counted_in
-told_back old mid new put taken k w h ps d =
-    let x = h ps (subst (λ (t : Tables). AreDifferences (tables.get t) (tables.get new.kept) ps) (sym k) d) in
-    record {
-      writes = subst (λ n. Rises (length ps) n new.writes) w x.writes;
-      came = x.came ∙ ap (λ (t : Tables). counted_in t ps) k;
-      went = x.went;
-    }

@@ -12,6 +12,8 @@ use Rattle.bdb_base.specs.declared.kinds.Stmt.{Stmt}
 use Rattle.bdb_base.specs.declared.tuple.Tuple.{Tuple}
 use Rattle.bdb_base.proofs.ClashLemmas.{same_tuple_turned}
 use Rattle.bdb_base.proofs.WorldLemmas.{explicit_tuple}
+use Rattle.bdb_base.proofs.ListLemmas.{list_any_same}
+use Rattle.bdb_base.proofs.BoolLemmas.{not_twice}
 use Rattle.bdb_keep.specs.Marked.{IsMarkedCount}
 use Rattle.bdb_keep.specs.Tables.{Tables}
 use Rattle.bdb_keep.specs.declared.keeper.KeyEnd.TheVariants.{Last}
@@ -19,7 +21,6 @@ use Rattle.bdb_keep.proofs.MarkedLemmas.{another_marked, only_marked}
 use Rattle.bdb_key.specs.Bytes.{num_bytes, vals_bytes}
 use Rattle.bdb_key.specs.Rows.{IsTupleRow}
 use Rattle.bdb_key.proofs.Readings.{num_form}
-use Rattle.bdb_paths.proofs.StateLemmas.{list_any_same}
 use Rattle.bdb_tables.specs.Codec.{HasAt}
 use Rattle.bdb_tables.specs.InUse.{tuple_ix_codec, val_bytes}
 use Rattle.bdb_tables.specs.Names.{path_of, number_of}
@@ -136,11 +137,7 @@ module _ (t : Tables) (u : Tuple) (fits : IsTupleRow u) where
   pub lost_some : (tid n : ℕ) (reached : List Stmt) → HasAt tuple_ix_codec t u (Some tid) → IsMarkedCount t 11 Last tid n → has_tuple reached u ≡ false → IsLost t reached u (nat_lt n 2)
   lost_some tid n reached has counted none b s w g c e =
       let tuple : s.tuples.tuple tid ≡ Some u = s.stored.tuples.numbered u tid (sym (number_read b.stmts s.tuples t u (Some tid) s.stored.tuples fits has)) in
-      sym (not_not (nat_lt n 2)) ∙ ap not (told_is t u tid n counted b s tuple w g c e) ∙ sym (ap (λ a. not (a || told_elsewhere b.stmts w u)) none)
-    where
-      not_not : (a : Bool) → not (not a) ≡ a
-      not_not true = refl
-      not_not false = refl
+      sym (not_twice (nat_lt n 2)) ∙ ap not (told_is t u tid n counted b s tuple w g c e) ∙ sym (ap (λ a. not (a || told_elsewhere b.stmts w u)) none)
 
 -- a tuple that one of some has is not lost
 pub lost_held : (t : Tables) (u : Tuple) (reached : List Stmt) → has_tuple reached u ≡ true → IsLost t reached u false

@@ -13,13 +13,13 @@ use Rattle.bdb_canon.specs.Sizes.{counts_of}
 use Rattle.bdb_canon.specs.declared.sizes.Counts.{Counts}
 use Rattle.bdb_keep.specs.Tables.{Tables}
 use Rattle.bdb_tables.specs.Names.{number_of, is_named}
-use Rattle.bdb_val.specs.declared.stored.Stored.{Stored}
+use Rattle.bdb_val.specs.declared.stored.StoredRow.{StoredRow}
 use Rattle.bdb_worlds.specs.Reach.{ReachesState}
 use Rattle.bdb_update.specs.Calls.{MayMeet, SomeMayMeet, clash_of, size_passed, with_one}
 use Rattle.bdb_update.specs.Examining.{AreSizes, IsProspect, Examines}
 use Rattle.bdb_update.specs.Joining.{IsWorldFound, IsWorldIfAny}
-use Rattle.bdb_update.specs.Looking.{IsPlace, IsSmall, is_own, least_row, counts_with, filled_by, joined_by, judged_by, judged, state_of}
-use Rattle.bdb_update.specs.declared.looking.Place.{Place}
+use Rattle.bdb_update.specs.Looking.{IsFinding, IsSmall, is_own, least_row, counts_with, filled_by, joined_by, judged_by, judged, state_of}
+use Rattle.bdb_update.specs.declared.looking.Finding.{Finding}
 use Rattle.bdb_update.proofs.JudgeLemmas.{clash_found, no_clash_found, standing_found, none_standing, worlds_with, tuples_with, stmts_with}
 use Rattle.bdb_update.proofs.StageLemmas.{belongs_parts}
 
@@ -45,7 +45,7 @@ world_if_any t w len wid reaches s h own named =
       | inr ge ↦ ap (number_of s.names) (sym (take_all len w ge)) ∙ r.number
     ]
 
-world_found : (t : Tables) (x : Stmt) (p : Place) → ReachesState t x.path p.len p.wid → p.len ≤ length x.path → IsWorldFound t x.path (state_of x p)
+world_found : (t : Tables) (x : Stmt) (p : Finding) → ReachesState t x.path p.len p.wid → p.len ≤ length x.path → IsWorldFound t x.path (state_of x p)
 world_found t x p reaches within = elim (cases_Bool (nat_eq p.len (length x.path))) [
   | inl e ↦ subst (IsWorldFound t x.path) (sym (cond-true (nat_eq p.len (length x.path)) (Some p.wid) None e)) (λ s h own.
       let whole : p.len ≡ length x.path = eqb-true p.len (length x.path) e in
@@ -60,7 +60,7 @@ world_found t x p reaches within = elim (cases_Bool (nat_eq p.len (length x.path
     below : (p.len ≡ length x.path → ⊥) → p.len < length x.path
     below bad = elim (cases_lt p.len (length x.path)) [ inl lt ↦ lt | inr ge ↦ absurd (bad (omega (arith, within, ge))) ]
 
-module _ (t : Tables) (c : Counts) (x : Stmt) (p : Place) (place : IsPlace t x p) (b : Contents) (may : MayMeet t c x b) where
+module _ (t : Tables) (c : Counts) (x : Stmt) (p : Finding) (place : IsFinding t x p) (b : Contents) (may : MayMeet t c x b) where
   sizes : stands b.stmts x ≡ false → AreSizes (counts_with x p c) (counts_of (with_one b x))
   sizes fresh =
       let s = may.base.stored in
@@ -92,15 +92,15 @@ module _ (t : Tables) (c : Counts) (x : Stmt) (p : Place) (place : IsPlace t x p
       by_own apart true e = standing_found t x p place b may.base.stored may.base.valid may.belongs e
       by_own apart false e = by_size apart (none_standing t x p place b may.base.stored may.base.valid may.belongs e) (size_passed (counts_with x p c)) refl
 
-      by_row : (o : Option Stored) → least_row (λ _. p.key_len) x p.rows.items ≡ o → IsProspect t b x (judged_by x p c o)
+      by_row : (o : Option StoredRow) → least_row (λ _. p.key_len) x p.rows.items ≡ o → IsProspect t b x (judged_by x p c o)
       by_row (Some r) e = clash_found t x p place b may.base.stored may.base.valid may.belongs r e
       by_row None e = by_own (no_clash_found t x p place b may.base.stored may.base.valid may.belongs e) (list_any (is_own x) p.rows.items) refl
 
-pub examined : (t : Tables) (c : Counts) (x : Stmt) (p : Place) → IsPlace t x p → Examines t c x (judged x p c)
+pub examined : (t : Tables) (c : Counts) (x : Stmt) (p : Finding) → IsFinding t x p → Examines t c x (judged x p c)
 examined t c x p place b may = verdict t c x p place b may
 
 -- the sizes are small enough to be counted
-pub small : (t : Tables) (c : Counts) (x : Stmt) (p : Place) → IsPlace t x p → SomeMayMeet t c x → IsSmall x p c
+pub small : (t : Tables) (c : Counts) (x : Stmt) (p : Finding) → IsFinding t x p → SomeMayMeet t c x → IsSmall x p c
 small t c x p place some =
     let v = some.may.base.valid.stmts in
     let e = some.may.base.counted in

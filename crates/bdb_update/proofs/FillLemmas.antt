@@ -8,6 +8,7 @@ use Rattle.bdb_base.specs.Causes.{Rises}
 use Rattle.bdb_base.specs.States.{is_state, deepest_suffix}
 use Rattle.bdb_base.specs.declared.kinds.Stmt.{Stmt}
 use Rattle.bdb_base.specs.declared.tuple.Tuple.{Tuple}
+use Rattle.bdb_base.proofs.OptionLemmas.{some_of, one_there}
 use Rattle.bdb_keep.specs.Seen.{Seen}
 use Rattle.bdb_keep.specs.Tables.{Tables}
 use Rattle.bdb_key.specs.Bytes.{num_bytes}
@@ -26,21 +27,19 @@ use Rattle.bdb_val.specs.WorldCopies.{TellsCopy, CopiesWorld, inherited_or, key_
 use Rattle.bdb_val.specs.Reads.{HaveTuples}
 use Rattle.bdb_val.specs.Steps.{IsChanging, counted as capped}
 use Rattle.bdb_val.proofs.Calls.{HasGone, gone_then, gone_changing}
-use Rattle.bdb_val.proofs.HeldLemmas.{some_is, names_are_linked}
+use Rattle.bdb_val.proofs.HeldLemmas.{names_are_linked}
 use Rattle.bdb_worlds.proofs.ReadLemmas.{link_read}
 use Rattle.bdb_update.specs.ChangeLaws.{inherited}
 use Rattle.bdb_update.specs.Filling.{AreTold, Before, HaveCome, SomeHaveCome, FillsWorlds, HasLink, IsFilled, names_now}
 use Rattle.bdb_tables.specs.Stored.{SameBut}
-use Rattle.bdb_update.proofs.PrefixLemmas.{front, next_path, every, front_free, next_length, next_named, shorter_named, next_is_new, prefixes_push}
+use Rattle.bdb_update.proofs.PrefixLemmas.{front, next_path, every, front_free, next_length, next_named, shorter_named, next_is_new}
 use Rattle.bdb_update.proofs.ReachLemmas.{plain_world_inherits}
 use Rattle.bdb_update.specs.Tallies.{HasRowCount}
 use Rattle.bdb_update.proofs.CallLemmas.{gone_itself}
 use Rattle.bdb_update.proofs.ComeLemmas.{bare, part_count, part_few, rows_one}
 use Rattle.bdb_update.proofs.TallyLemmas.{told_balance}
 use Rattle.bdb_tables.proofs.SameLemmas.{same_then}
-
-same_some : {X : Type 0} (x y : X) (o : Option X) → o ≡ Some x → o ≡ Some y → x ≡ y
-same_some x y o a b = cc
+use Rattle.bdb_worlds.proofs.GrowLemmas.{push_prefixes}
 
 -- an inherited row in place of none
 inherited_only : (o : Option Mark) → inherited_or o None ≡ inherited o
@@ -115,7 +114,7 @@ module _ (s : Before) (t : Tables) (xs ys : List ℕ) (n : ℕ) (c : HaveCome s 
     has v e = c.more v (c.old v ∙ e)
 
     leads : path_of all m ≡ Some d
-    leads = ap (path_of all) (same_some m link.0 (link_of all n) linked link.1) ∙ link.2
+    leads = ap (path_of all) (one_there m link.0 (link_of all n) linked link.1) ∙ link.2
 
     d_short : length d ≤ s.stood + length xs
     d_short =
@@ -129,7 +128,7 @@ module _ (s : Before) (t : Tables) (xs ys : List ℕ) (n : ℕ) (c : HaveCome s 
 
     no_state : is_state s.stmts (i ∷ w) ≡ false
     no_state = false_from_ne_true (is_state s.stmts (i ∷ w)) (λ e.
-        let k = some_is (number_of s.names (i ∷ w)) (c.old (i ∷ w) ∙ e) in
+        let k = some_of (number_of s.names (i ∷ w)) (c.old (i ∷ w) ∙ e) in
         next_is_new s.names s.path s.stood xs ys n c.least whole names k.0 (c.names.numbered (i ∷ w) k.0 k.1 ∙ ap Some (sym p_is)))
 
     inherits : (v : Tuple) → mark_of s.keys s.stmts p v ≡ inherited (mark_of s.keys s.stmts d v)
@@ -160,7 +159,7 @@ module _ (s : Before) (t : Tables) (xs ys : List ℕ) (n : ℕ) (c : HaveCome s 
     world_filled = gives_same val_codec u (rows_copied rows_before m n) (row_for s.keys s.stmts (path_of (with_name before n p)) s.tuples.tuple) (λ k f. row_is k) (copies rows_before rows)
 
     pub one_filled : HoldsRows s.keys s.stmts (path_of (names_now s (xs ++ n ∷ []))) s.tuples.tuple u
-    one_filled = subst (λ (x : Names). HoldsRows s.keys s.stmts (path_of x) s.tuples.tuple u) (sym (prefixes_push s.names s.path s.stood xs n)) world_filled
+    one_filled = subst (λ (x : Names). HoldsRows s.keys s.stmts (path_of x) s.tuples.tuple u) (sym (push_prefixes s.names s.path s.stood xs n)) world_filled
 
 -- ---- the loop
 

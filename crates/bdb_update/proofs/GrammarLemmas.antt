@@ -11,7 +11,8 @@ use Rattle.bdb_tables.specs.Names.{Names}
 use Rattle.bdb_tables.specs.Rows.{Tuples}
 use Rattle.bdb_tables.specs.Stored.{is_table, StoredOver}
 use Rattle.bdb_base.specs.declared.kinds.Stmt.{Stmt}
-use Rattle.bdb_tables.proofs.Held.{held, none_some}
+use Rattle.bdb_base.proofs.OptionLemmas.{none_is_some}
+use Rattle.bdb_tables.proofs.Held.{held}
 use Rattle.bdb_update.specs.StoredLaws.{StoredIsInGrammar}
 
 -- what holds whichever way a test answers
@@ -39,7 +40,7 @@ module _ (reached told : List Stmt) (ns : Names) (ts : Tuples) (t : Tables) (b :
       by_test (nat_eq n 10) _ _ (λ e. held led_codec t h.states.tables.led.fits n k r (eqb-true n 10 e) found) (λ n10.
       by_test (nat_eq n 11) _ _ (λ e. held val_codec t h.rows.fits n k r (eqb-true n 11 e) found) (λ n11.
       by_test (nat_eq n 12) _ _ (λ e. held plain_codec t h.plain.fits n k r (eqb-true n 12 e) found)
-      (λ n12. none_some r (sym (h.outside n k (no_table n n1 n2 n3 n4 n5 n6 n7 n8 n9 n10 n11 n12)) ∙ found)))))))))))))
+      (λ n12. none_is_some r (sym (h.outside n k (no_table n n1 n2 n3 n4 n5 n6 n7 n8 n9 n10 n11 n12)) ∙ found)))))))))))))
 
 pub stored_is_in_grammar : StoredIsInGrammar
 stored_is_in_grammar t b s = over_in_grammar b.stmts b.stmts s.names s.tuples t b s.stored

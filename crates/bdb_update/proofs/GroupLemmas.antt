@@ -7,6 +7,7 @@ use Rattle.bdb_base.specs.Clash.{key_of}
 use Rattle.bdb_base.specs.Worlds.{IsConsistent}
 use Rattle.bdb_base.specs.declared.kinds.Stmt.{Stmt}
 use Rattle.bdb_base.specs.declared.tuple.Tuple.{Tuple}
+use Rattle.bdb_base.proofs.OptionLemmas.{some_of}
 use Rattle.bdb_keep.specs.Tables.{Tables}
 use Rattle.bdb_tables.specs.InUse.{val_codec}
 use Rattle.bdb_tables.specs.Names.{Names, path_of}
@@ -18,7 +19,6 @@ use Rattle.bdb_val.specs.Settling.{AreNumbered}
 use Rattle.bdb_update.proofs.KeyLemmas.{lengths_fit}
 use Rattle.bdb_update.specs.Differing.{AreWithin, DifferAt, said_at}
 use Rattle.bdb_tables.specs.Stored.{StoredOver}
-use Rattle.bdb_val.proofs.HeldLemmas.{some_is}
 use Rattle.bdb_update.specs.ChangeLaws.{SettledGroupStores}
 use Rattle.bdb_update.proofs.ChangeLemmas.{changed_row_unsettles}
 use Rattle.bdb_update.specs.Keys.{keys_of}
@@ -32,7 +32,7 @@ pub group_unsettled : (reached told next : List Stmt) (ns : Names) (ts : Tuples)
     (is_of_group (keys_of b) u.rel (key_of (keys_of b) u))
 group_unsettled reached told next ns ts t b w u wid tid h old new c d differ path name =
     let numbered : AreNumbered ts.tuple next = λ p x s e. (
-    let n = some_is (ts.number x) (h.tuples.stated x ∙ new.tuples x (explicit_tuple next p x s e)) in
+    let n = some_of (ts.number x) (h.tuples.stated x ∙ new.tuples x (explicit_tuple next p x s e)) in
     (n.0, h.tuples.numbered x n.0 n.1)) in
     changed_row_unsettles (keys_of b) b.stmts next told _ ns ts t w u wid tid (lengths_fit t b.catalog.rels h.rels) h.states h.tuples h.rows
     (λ p e. h.worlds p ∙ old.states p e) (λ p e. h.worlds p ∙ new.states p e) numbered c d differ path name

@@ -1,8 +1,6 @@
 -- A base stays valid with a statement that passes no limit and clashes with none.
-use Rattle.std.proofs.Common.{◌≡◌, ◌∙◌, ℕ, ◌+◌, ◌≤◌, Bool, true, false, ◌&&◌, ◌||◌, nat_lt, cond, List, [], ◌∷◌, length, refl, ap, sym, inl, inr, Some, None, arith}
+use Rattle.std.proofs.Common.{◌≡◌, ◌∙◌, ℕ, ◌+◌, ◌≤◌, Bool, true, false, ◌&&◌, nat_lt, cond, length, refl, ap, Some, None, arith}
 use Rattle.std.specs.Prelude.{if◌then◌else◌}
-use Rattle.std.specs.List.{list_any}
-use Rattle.std.proofs.lemmas.Bool.{false≢true, cases_lt, lt-ltb}
 use Rattle.bdb_base.specs.Bases.{Contents, IsValid, belongs, key_lengths, tuple_count, with_statement, world_count}
 use Rattle.bdb_base.specs.Clash.{clash}
 use Rattle.bdb_base.specs.Limits.{most_worlds, most_tuples, most_statements}
@@ -13,24 +11,14 @@ use Rattle.bdb_base.proofs.BaseLemmas.{put_counts_statement, put_is_valid}
 use Rattle.bdb_canon.specs.Sizes.{counts_of}
 use Rattle.bdb_update.specs.Calls.{clash_of, size_passed, with_one}
 use Rattle.bdb_update.specs.Joining.{MayJoin}
-use Rattle.std.proofs.Common.{find}
-
-none_found : {X : Type 0} (p : X → Bool) (xs : List X) → find p xs ≡ None → list_any p xs ≡ false
-none_found p [] e = refl
-none_found p (x ∷ xs) e = by (p x) refl (λ k. none_found p xs k)
-  where
-    by : (b : Bool) → p x ≡ b → (find p xs ≡ None → list_any p xs ≡ false) → list_any p (x ∷ xs) ≡ false
-    by true a h = let f : Some x ≡ None = sym (ap (λ b. cond b (Some x) (find p xs)) a) ∙ e in absurd cc
-    by false a h = let f : find p xs ≡ None = sym (ap (λ b. cond b (Some x) (find p xs)) a) ∙ e in ap (λ b. b || list_any p xs) a ∙ h f
+use Rattle.bdb_base.proofs.FindLemmas.{none_found}
+use Rattle.bdb_base.proofs.Numbers.{not_less}
 
 -- the sizes that pass no limit
 pub record AreWithin (w t s : ℕ) : Type 0 where
   pub worlds : w ≤ most_worlds
   pub tuples : t ≤ most_tuples
   pub stmts : s ≤ most_statements
-
-not_passed : (m n : ℕ) → nat_lt m n ≡ false → n ≤ m
-not_passed m n e = elim (cases_lt m n) [ inl lt ↦ absurd (false≢true (sym e ∙ lt-ltb m n lt)) | inr ge ↦ ge ]
 
 within : (w t s : ℕ) → (if nat_lt most_worlds w then Some Worlds else (if nat_lt most_tuples t then Some Tuples else (if nat_lt most_statements s then Some Statements else None))) ≡ None → AreWithin w t s
 within w t s e = by (nat_lt most_worlds w) (nat_lt most_tuples t) (nat_lt most_statements s) refl refl refl e
@@ -40,7 +28,7 @@ within w t s e = by (nat_lt most_worlds w) (nat_lt most_tuples t) (nat_lt most_s
     by true b c x y z e = absurd cc
     by false true c x y z e = absurd cc
     by false false true x y z e = absurd cc
-    by false false false x y z e = record { worlds = not_passed most_worlds w x; tuples = not_passed most_tuples t y; stmts = not_passed most_statements s z }
+    by false false false x y z e = record { worlds = not_less most_worlds w x; tuples = not_less most_tuples t y; stmts = not_less most_statements s z }
 
 pub may_join : (b : Contents) (x : Stmt) → IsValid b.catalog b.stmts → belongs b.catalog x ≡ true → clash_of b x ≡ None → size_passed (counts_of (with_one b x)) ≡ None → MayJoin b x
 may_join b x valid belong apart room =

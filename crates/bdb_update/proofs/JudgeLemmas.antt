@@ -10,7 +10,7 @@ use Rattle.bdb_base.specs.Bases.{Contents, IsValid, belongs, is_user, has_tuple,
 use Rattle.bdb_base.specs.Clash.{clash, key_of}
 use Rattle.bdb_base.specs.Laws.{ClashesAt}
 use Rattle.bdb_base.specs.Order.{path_cmp, sign_cmp, statement_cmp, tuple_cmp}
-use Rattle.bdb_base.specs.OrderLemmas.{is_eq_statement_cmp, is_eq_path_cmp, is_eq_tuple_cmp}
+use Rattle.bdb_base.specs.OrderLemmas.{is_eq_path_cmp, is_eq_tuple_cmp}
 use Rattle.bdb_base.specs.Same.{same_sign, same_statement, same_tuple, same_values}
 use Rattle.bdb_base.specs.SameLemmas.{same_path-Decides, same_sign-Decides, same_tuple-Decides, same_values-Decides}
 use Rattle.bdb_base.specs.States.{is_state, new_states}
@@ -24,12 +24,15 @@ use Rattle.bdb_base.proofs.ClashLemmas.{same_tuple_turned}
 use Rattle.bdb_base.proofs.FirstLemmas.{explicit_statement, statement_explicit}
 use Rattle.bdb_base.proofs.LeastLemmas.{least_clash_is_least, no_least_clash}
 use Rattle.bdb_base.proofs.SetLemmas.{is_eq-Equal}
-use Rattle.bdb_base.proofs.WorldLemmas.{nothing_stands, valid_is_consistent}
+use Rattle.bdb_base.proofs.WorldLemmas.{nothing_stands, valid_is_consistent, stands_is_explicit}
+use Rattle.bdb_base.proofs.OptionLemmas.{none_and_some}
+use Rattle.bdb_base.proofs.ListLemmas.{list_any_same}
+use Rattle.bdb_base.proofs.AllLemmas.{all_filter}
 use Rattle.bdb_keep.specs.Tables.{Tables}
-use Rattle.bdb_paths.proofs.StateLemmas.{list_any_same, put_counts_worlds, states_have_prefixes}
+use Rattle.bdb_paths.proofs.StateLemmas.{put_counts_worlds, states_have_prefixes}
 use Rattle.bdb_tables.specs.Names.{number_of}
 use Rattle.bdb_val.specs.Reads.{is_of_group}
-use Rattle.bdb_val.specs.declared.stored.Stored.{Stored}
+use Rattle.bdb_val.specs.declared.stored.StoredRow.{StoredRow}
 use Rattle.bdb_val.proofs.WalkLemmas.{is_group}
 use Rattle.bdb_worlds.proofs.GrowLemmas.{take_split}
 use Rattle.bdb_worlds.specs.Holding.{Worlds}
@@ -38,11 +41,11 @@ use Rattle.bdb_update.proofs.KeyLemmas.{key_by_length}
 use Rattle.bdb_update.specs.Calls.{clash_of}
 use Rattle.bdb_update.specs.Groups.{AreExplicitUnder}
 use Rattle.bdb_update.specs.Keys.{keys_of}
-use Rattle.bdb_update.specs.Looking.{IsPlace, is_clashing, is_own, least_row, prefix_of}
+use Rattle.bdb_update.specs.Looking.{IsFinding, is_clashing, is_own, least_row, prefix_of}
 use Rattle.bdb_tables.specs.Stored.{Stores}
 use Rattle.bdb_tables.specs.GroupMarks.{group_bytes}
-use Rattle.bdb_update.specs.declared.looking.Place.{Place}
-use Rattle.bdb_update.proofs.ExplicitLemmas.{AmongAll, among_all, filtered, is_explicit_row, unfiltered}
+use Rattle.bdb_update.specs.declared.looking.Finding.{Finding}
+use Rattle.bdb_update.proofs.ExplicitLemmas.{AmongAll, among_all, is_explicit_row, unfiltered}
 use Rattle.bdb_update.proofs.GrammarLemmas.{stored_is_in_grammar}
 use Rattle.bdb_update.proofs.LeastLemmas.{IsLeastRow, IsNotBelow, least_is, none_clash, least_alike}
 use Rattle.bdb_update.proofs.MissingLemmas.{missing_behind}
@@ -50,16 +53,10 @@ use Rattle.bdb_update.proofs.OwnLemmas.{IsSaid, rows_said, said_rows}
 use Rattle.bdb_update.proofs.StageLemmas.{belongs_parts, over_has_tuples}
 use Rattle.bdb_update.proofs.TupleLemmas.{number_read}
 
-none_some : {X : Type 0} (x : X) (o : Option X) → o ≡ None → o ≡ Some x → ⊥
-none_some x o a b = cc
-
 -- ---- statements that stand
 
-pub stands_is : (stmts : List Stmt) (x : Stmt) → stands stmts x ≡ explicit stmts x.path x.tuple x.sign
-stands_is stmts x = list_any_same (λ y. is_eq (statement_cmp y x)) (λ y. same_statement y x) (λ y. is_eq_statement_cmp y x) stmts
-
 -- a statement as a row of its path says it
-abbrev pub said_by : Stmt → Stored → Stmt
+abbrev pub said_by : Stmt → StoredRow → Stmt
 said_by x r = record { path = x.path; sign = r.mark.0; tuple = r.tuple }
 
 -- at one path, one statement is below another of a tuple that isn't below its own only where the tuples are one and the signs in order
@@ -83,14 +80,14 @@ signs_clash keys u Plus Minus e = (same_tuple-Decides u u).1 refl
 signs_clash keys u Minus Plus e = absurd (false≢true e)
 signs_clash keys u Minus Minus e = absurd (false≢true e)
 
-abbrev IsNoClash : (ℕ → ℕ) → Stmt → Stored → Type 0
+abbrev IsNoClash : (ℕ → ℕ) → Stmt → StoredRow → Type 0
 IsNoClash keys x q = is_clashing keys x q ≡ false
 
-module _ (t : Tables) (x : Stmt) (p : Place) (place : IsPlace t x p) (b : Contents) (s : Stores t b) (valid : IsValid b.catalog b.stmts) (belong : belongs b.catalog x ≡ true) where
+module _ (t : Tables) (x : Stmt) (p : Finding) (place : IsFinding t x p) (b : Contents) (s : Stores t b) (valid : IsValid b.catalog b.stmts) (belong : belongs b.catalog x ≡ true) where
   abbrev ws : Worlds
   ws = record { users = is_user b.catalog.users; names = s.names }
 
-  abbrev rows : List Stored
+  abbrev rows : List StoredRow
   rows = p.rows.items
 
   consistent : IsConsistent (keys_of b) b.stmts
@@ -134,11 +131,11 @@ module _ (t : Tables) (x : Stmt) (p : Place) (place : IsPlace t x p) (b : Conten
         (subst (λ q. AreExplicitUnder t q rows) prefix_is (place.rows full))
 
     said : AllByRecursion (IsSaid b.stmts x.path) rows
-    said = subst (AllByRecursion (IsSaid b.stmts x.path)) (sym among.are) (filtered (IsSaid b.stmts x.path) is_explicit_row among.all
+    said = subst (AllByRecursion (IsSaid b.stmts x.path)) (sym among.are) (all_filter (IsSaid b.stmts x.path) is_explicit_row among.all
         (rows_said t b s.names s.tuples s.stored consistent x.path p.wid number x.tuple place.fits among.all among.read))
 
-    found : (Q : Stored → Type 0) → AllByRecursion Q rows → (v : Tuple) (r : Sign) → explicit b.stmts x.path v r ≡ true → is_of_group (keys_of b) x.tuple.rel (key_of (keys_of b) x.tuple) v ≡ true
-        → (q : Stored) × (q.tuple ≡ v) × (q.mark ≡ (r, true)) × Q q
+    found : (Q : StoredRow → Type 0) → AllByRecursion Q rows → (v : Tuple) (r : Sign) → explicit b.stmts x.path v r ≡ true → is_of_group (keys_of b) x.tuple.rel (key_of (keys_of b) x.tuple) v ≡ true
+        → (q : StoredRow) × (q.tuple ≡ v) × (q.mark ≡ (r, true)) × Q q
     found Q all v r e like =
         let k = said_rows t b s.names s.tuples s.stored consistent x.path p.wid number x.tuple place.fits among.all among.read (λ q. is_explicit_row q ≡ true → Q q)
         (unfiltered Q is_explicit_row among.all (subst (AllByRecursion Q) among.are all)) v r e like in
@@ -149,7 +146,7 @@ module _ (t : Tables) (x : Stmt) (p : Place) (place : IsPlace t x p) (b : Conten
         ((same_values-Decides (key_of (keys_of b) x.tuple) (key_of (keys_of b) x.tuple)).1 refl)
 
     -- each statement that clashes has a row that does
-    clashing_row : (Q : Stored → Type 0) → AllByRecursion Q rows → (y : Stmt) → ClashesAt (keys_of b) b.stmts x.path x.tuple x.sign y → (q : Stored) × (q.tuple ≡ y.tuple) × (is_clashing (keys_of b) x q ≡ true) × Q q
+    clashing_row : (Q : StoredRow → Type 0) → AllByRecursion Q rows → (y : Stmt) → ClashesAt (keys_of b) b.stmts x.path x.tuple x.sign y → (q : StoredRow) × (q.tuple ≡ y.tuple) × (is_clashing (keys_of b) x q ≡ true) × Q q
     clashing_row Q all y c =
         let e = statement_explicit b.stmts x.path y c.0 c.1 in
         let like = is_group (keys_of b) x.tuple.rel (key_of (keys_of b) x.tuple) x.tuple y.tuple x.sign y.sign like_itself c.2 in
@@ -166,7 +163,7 @@ module _ (t : Tables) (x : Stmt) (p : Place) (place : IsPlace t x p) (b : Conten
         let r = clashing_row (IsNoClash (keys_of b) x) (none_clash (keys_of b) x rows e) y c in
         false≢true (sym r.3 ∙ r.2))
 
-    least_here : (r : Stored) → least_row (keys_of b) x rows ≡ Some r → clash_of b x ≡ Some (said_by x r)
+    least_here : (r : StoredRow) → least_row (keys_of b) x rows ≡ Some r → clash_of b x ≡ Some (said_by x r)
     least_here r e = by (clash_of b x) refl
       where
         least : IsLeastRow (keys_of b) x rows r
@@ -207,9 +204,9 @@ module _ (t : Tables) (x : Stmt) (p : Place) (place : IsPlace t x p) (b : Conten
             ]
 
     own_here : list_any (is_own x) rows ≡ true → stands b.stmts x ≡ true
-    own_here e = stands_is b.stmts x ∙ go rows said e
+    own_here e = stands_is_explicit b.stmts x ∙ go rows said e
       where
-        go : (rs : List Stored) → AllByRecursion (IsSaid b.stmts x.path) rs → list_any (is_own x) rs ≡ true → explicit b.stmts x.path x.tuple x.sign ≡ true
+        go : (rs : List StoredRow) → AllByRecursion (IsSaid b.stmts x.path) rs → list_any (is_own x) rs ≡ true → explicit b.stmts x.path x.tuple x.sign ≡ true
         go [] a f = absurd (false≢true f)
         go (r ∷ rs) a f = elim (or_cases (is_own x r) (list_any (is_own x) rs) f) [
           | inl o ↦
@@ -222,13 +219,13 @@ module _ (t : Tables) (x : Stmt) (p : Place) (place : IsPlace t x p) (b : Conten
 
     none_own : list_any (is_own x) rows ≡ false → stands b.stmts x ≡ false
     none_own e = false_from_ne_true (stands b.stmts x) (λ f.
-        let r = found (λ q. is_own x q ≡ false) (all_false rows e) x.tuple x.sign (sym (stands_is b.stmts x) ∙ f) like_itself in
+        let r = found (λ q. is_own x q ≡ false) (all_false rows e) x.tuple x.sign (sym (stands_is_explicit b.stmts x) ∙ f) like_itself in
         let own : is_own x r.0 ≡ true = and_from r.0.mark.1 (same_tuple r.0.tuple x.tuple && same_sign r.0.mark.0 x.sign) (ap (λ (m : Sign × Bool). m.1) r.2)
         (and_from (same_tuple r.0.tuple x.tuple) (same_sign r.0.mark.0 x.sign) ((same_tuple-Decides r.0.tuple x.tuple).1 r.1)
         ((same_sign-Decides r.0.mark.0 x.sign).1 (ap (λ (m : Sign × Bool). m.0) r.2))) in
         false≢true (sym r.3 ∙ own))
       where
-        all_false : (rs : List Stored) → list_any (is_own x) rs ≡ false → AllByRecursion (λ q. is_own x q ≡ false) rs
+        all_false : (rs : List StoredRow) → list_any (is_own x) rs ≡ false → AllByRecursion (λ q. is_own x q ≡ false) rs
         all_false [] k = tt
         all_false (r ∷ rs) k = (
           false_from_ne_true (is_own x r) (λ h. false≢true (sym k ∙ or_left (is_own x r) (list_any (is_own x) rs) h)),
@@ -259,7 +256,7 @@ module _ (t : Tables) (x : Stmt) (p : Place) (place : IsPlace t x p) (b : Conten
         false≢true (sym (none_explicit y.tuple y.sign) ∙ statement_explicit b.stmts x.path y c.0 c.1))
 
     none_stands : stands b.stmts x ≡ false
-    none_stands = stands_is b.stmts x ∙ none_explicit x.tuple x.sign
+    none_stands = stands_is_explicit b.stmts x ∙ none_explicit x.tuple x.sign
 
   -- ---- in any case
 
@@ -269,10 +266,10 @@ module _ (t : Tables) (x : Stmt) (p : Place) (place : IsPlace t x p) (b : Conten
     | inr e ↦ inr (λ d. false≢true (sym e ∙ eq-eqb p.len (length x.path) d))
   ]
 
-  pub clash_found : (r : Stored) → least_row (λ _. p.key_len) x rows ≡ Some r → clash_of b x ≡ Some (said_by x r)
+  pub clash_found : (r : StoredRow) → least_row (λ _. p.key_len) x rows ≡ Some r → clash_of b x ≡ Some (said_by x r)
   clash_found r e = elim full_or_short [
     | inl f ↦ least_here f r (sym least_is_row ∙ e)
-    | inr n ↦ absurd (none_some r (least_row (λ _. p.key_len) x rows) (ap (least_row (λ _. p.key_len) x) (no_rows n)) e)
+    | inr n ↦ absurd (none_and_some r (least_row (λ _. p.key_len) x rows) (ap (least_row (λ _. p.key_len) x) (no_rows n)) e)
   ]
 
   pub no_clash_found : least_row (λ _. p.key_len) x rows ≡ None → clash_of b x ≡ None

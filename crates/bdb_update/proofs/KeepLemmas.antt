@@ -8,7 +8,8 @@ use Rattle.bdb_base.specs.States.{is_state}
 use Rattle.bdb_base.specs.declared.kinds.Stmt.{Stmt}
 use Rattle.bdb_base.specs.declared.tuple.Tuple.{Tuple}
 use Rattle.bdb_base.proofs.BaseLemmas.{take_is_valid}
-use Rattle.bdb_base.proofs.WorldLemmas.{valid_is_consistent}
+use Rattle.bdb_base.proofs.WorldLemmas.{valid_is_consistent, stands_is_explicit}
+use Rattle.bdb_base.proofs.OptionLemmas.{none_is_some}
 use Rattle.bdb_keep.specs.Tables.{Tables}
 use Rattle.bdb_key.specs.Rows.{IsTupleRow}
 use Rattle.bdb_names.proofs.NamedLemmas.{named_path, names_are_one, path_is_told}
@@ -20,7 +21,6 @@ use Rattle.bdb_tables.specs.Rows.{Tuples, HoldsTuples, HoldsRows}
 use Rattle.bdb_tables.specs.Stored.{SameBut, Stores}
 use Rattle.bdb_tables.specs.States.{HoldsStates}
 use Rattle.bdb_tables.proofs.SameLemmas.{states_still}
-use Rattle.bdb_tables.proofs.SignLemmas.{stands_is_explicit}
 use Rattle.bdb_worlds.specs.Growth.{AddsStates, SameOutside, with_prefixes}
 use Rattle.bdb_worlds.specs.Holding.{Worlds}
 use Rattle.bdb_worlds.specs.Shrinking.{DropsStates, without_prefixes}
@@ -51,15 +51,12 @@ names_come t u v x worlds new added outside same some n w e =
     let states = states_still rows_alone u v same _ (with_prefixes ns x.path g.stood new) refl refl refl refl refl g.states in
     path_is_told _ (with_prefixes ns x.path g.stood new) v states n w (still_named ns x.path g.stood new n w g.least (named_path _ ns t some.stored.stored.states e))
 
-none_some : {X : Type 0} (v : X) → None ≡ Some v → ⊥
-none_some v e = cc
-
 stood_before : (ns : Names) (path : List ℕ) (len : ℕ) (gone : List ℕ) (n : ℕ) (w : List ℕ) → path_of (without_prefixes ns path len gone) n ≡ Some w → path_of ns n ≡ Some w
 stood_before ns path len [] n w e = e
 stood_before ns path len (m ∷ gone) n w e =
     let f = stood_before (without_name ns m (take len path)) path (len - 1) gone n w e in
     elim (cases_Bool (nat_eq n m)) [
-      | inl a ↦ absurd (none_some w (sym (cond-true (nat_eq n m) None (path_of ns n) a) ∙ f))
+      | inl a ↦ absurd (none_is_some w (sym (cond-true (nat_eq n m) None (path_of ns n) a) ∙ f))
       | inr a ↦ sym (cond-false (nat_eq n m) None (path_of ns n) a) ∙ f
     ]
 

@@ -2,12 +2,12 @@
 use Rattle.std.proofs.Common.{◌≡◌, ◌∙◌, ℕ, ◌+◌, ◌≤◌, Bool, false, List, [], ◌∷◌, ◌++◌, length, take, Option, Some, None, MatchOption, suc, zero, ap, sym, subst, arith, lit<}
 use Rattle.std.specs.List.{slice_get, AllByRecursion}
 use Rattle.bdb_base.specs.Bases.{key_at, key_lengths}
-use Rattle.bdb_base.specs.Clash.{clash, key_of, same_key}
+use Rattle.bdb_base.specs.Clash.{key_of, same_key}
 use Rattle.bdb_base.specs.declared.kinds.RelDef.{RelDef}
-use Rattle.bdb_base.specs.declared.kinds.Sign.{Sign}
 use Rattle.bdb_base.specs.declared.kinds.Value.{Value}
 use Rattle.bdb_base.specs.declared.tuple.Tuple.{Tuple}
-use Rattle.bdb_base.proofs.ClashLemmas.{clash_by_length, same_key_by_length}
+use Rattle.bdb_base.proofs.ClashLemmas.{same_key_by_length}
+use Rattle.bdb_base.proofs.ListLemmas.{take_short}
 use Rattle.bdb_keep.specs.Tables.{Tables}
 use Rattle.bdb_key.specs.Grammar.{IsNum, HasPlainText}
 use Rattle.bdb_key.specs.Rows.{IsRelRow}
@@ -54,10 +54,6 @@ relations_none t n rels num none is all g =
 pub relations_tell : (t : Tables) (rels : List RelDef) → AreRelations t rels → HaveKeyLengths t rels
 relations_tell t rels is all g = ap key_lengths (is all g)
 
--- whether two signed tuples clash is told by the length of the key of the first one's relation
-pub clash_of : (keys : ℕ → ℕ) (n : ℕ) (u : Tuple) (s : Sign) (v : Tuple) (r : Sign) → n ≡ keys u.rel → clash (λ _. n) u s v r ≡ clash keys u s v r
-clash_of keys n u s v r e = ap (λ (k : ℕ). clash (λ _. k) u s v r) e ∙ clash_by_length keys u s v r
-
 -- the same of whether two tuples have the same key
 pub same_key_of : (keys : ℕ → ℕ) (n : ℕ) (u v : Tuple) → n ≡ keys u.rel → same_key (λ _. n) u v ≡ same_key keys u v
 same_key_of keys n u v e = ap (λ (k : ℕ). same_key (λ _. k) u v) e ∙ same_key_by_length keys u v
@@ -67,11 +63,6 @@ same_key_of keys n u v e = ap (λ (k : ℕ). same_key (λ _. k) u v) e ∙ same_
 -- the first values of a tuple, as many as its relation's key has, are its key
 pub key_by_length : (keys : ℕ → ℕ) (n : ℕ) (u : Tuple) → n ≡ keys u.rel → key_of (λ _. n) u ≡ key_of keys u
 key_by_length keys n u e = ap (λ (k : ℕ). take k u.vals) e
-
-take_short : (n : ℕ) (vs : List Value) → length (take n vs) ≤ n
-take_short zero vs = omega arith
-take_short (suc n) [] = omega arith
-take_short (suc n) (v ∷ vs) = let l = take_short n vs in omega (arith, l)
 
 take_texts : (n : ℕ) (vs : List Value) → AllByRecursion HasPlainText vs → AllByRecursion HasPlainText (take n vs)
 take_texts zero vs h = tt

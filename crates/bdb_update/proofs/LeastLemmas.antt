@@ -10,8 +10,9 @@ use Rattle.bdb_base.specs.OrderLemmas.{tuple_exact}
 use Rattle.bdb_base.specs.declared.kinds.Stmt.{Stmt}
 use Rattle.bdb_base.specs.declared.tuple.Tuple.{Tuple}
 use Rattle.bdb_base.proofs.SetLemmas.{is_lt-Less, cases_Ordering, greater_from_less, less_from_greater}
-use Rattle.bdb_val.specs.declared.stored.Stored.{Stored}
-use Rattle.bdb_update.proofs.KeyLemmas.{clash_of}
+use Rattle.bdb_base.proofs.ClashLemmas.{clash_of}
+use Rattle.bdb_base.proofs.OptionLemmas.{none_and_some, same_some}
+use Rattle.bdb_val.specs.declared.stored.StoredRow.{StoredRow}
 use Rattle.bdb_update.specs.Looking.{is_clashing, first_of, least_row}
 
 -- ---- tuples in order
@@ -34,17 +35,17 @@ not_below_then a b c p q = false_from_ne_true (is_lt (tuple_cmp c a)) (λ e.
 
 -- ---- the length of the key of a statement's relation tells which rows clash with it
 
-clashing_alike : (keys : ℕ → ℕ) (n : ℕ) (x : Stmt) (r : Stored) → n ≡ keys x.tuple.rel → is_clashing (λ _. n) x r ≡ is_clashing keys x r
+clashing_alike : (keys : ℕ → ℕ) (n : ℕ) (x : Stmt) (r : StoredRow) → n ≡ keys x.tuple.rel → is_clashing (λ _. n) x r ≡ is_clashing keys x r
 clashing_alike keys n x r e = ap (λ c. r.mark.1 && c) (clash_of keys n x.tuple x.sign r.tuple r.mark.0 e)
 
-pub least_alike : (keys : ℕ → ℕ) (n : ℕ) (x : Stmt) (rows : List Stored) → n ≡ keys x.tuple.rel → least_row (λ _. n) x rows ≡ least_row keys x rows
+pub least_alike : (keys : ℕ → ℕ) (n : ℕ) (x : Stmt) (rows : List StoredRow) → n ≡ keys x.tuple.rel → least_row (λ _. n) x rows ≡ least_row keys x rows
 least_alike keys n x [] e = refl
 least_alike keys n x (r ∷ rs) e =
     ap (λ c. cond c (Some (first_of r (least_row (λ _. n) x rs))) (least_row (λ _. n) x rs)) (clashing_alike keys n x r e)
     ∙ ap (λ o. cond (is_clashing keys x r) (Some (first_of r o)) o) (least_alike keys n x rs e)
 
 -- a first row that clashes, and what is least among those behind it
-pub least_further : (keys : ℕ → ℕ) (x : Stmt) (rows : List Stored) (r : Stored) (o : Option Stored) → 1 ≤ length rows → r ≡ get_or rows 0 r → o ≡ least_row keys x (take (length rows - 1) (drop 1 rows))
+pub least_further : (keys : ℕ → ℕ) (x : Stmt) (rows : List StoredRow) (r : StoredRow) (o : Option StoredRow) → 1 ≤ length rows → r ≡ get_or rows 0 r → o ≡ least_row keys x (take (length rows - 1) (drop 1 rows))
     → is_clashing keys x r ≡ true → Some (first_of r o) ≡ least_row keys x rows
 least_further keys x [] r o n e f c = absurd (omega arith)
 least_further keys x (q ∷ qs) r o n e f c =
@@ -56,34 +57,28 @@ least_further keys x (q ∷ qs) r o n e f c =
 module _ (keys : ℕ → ℕ) where
   -- ---- the least row
 
-  abbrev pub IsNotBelow : Stmt → Stored → Stored → Type 0
+  abbrev pub IsNotBelow : Stmt → StoredRow → StoredRow → Type 0
   IsNotBelow x r q = is_clashing keys x q ≡ true → is_lt (tuple_cmp q.tuple r.tuple) ≡ false
 
   -- a row clashes, is one of some, and no other that clashes comes before it
-  pub record IsLeastRow (x : Stmt) (rows : List Stored) (r : Stored) : Type 1 where
+  pub record IsLeastRow (x : Stmt) (rows : List StoredRow) (r : StoredRow) : Type 1 where
     pub clashing : is_clashing keys x r ≡ true
-    pub one : (P : Stored → Type 0) → AllByRecursion P rows → P r
+    pub one : (P : StoredRow → Type 0) → AllByRecursion P rows → P r
     pub least : AllByRecursion (IsNotBelow x r) rows
 
-  all_weaker : {P Q : Stored → Type 0} → ((q : Stored) → P q → Q q) → (rows : List Stored) → AllByRecursion P rows → AllByRecursion Q rows
+  all_weaker : {P Q : StoredRow → Type 0} → ((q : StoredRow) → P q → Q q) → (rows : List StoredRow) → AllByRecursion P rows → AllByRecursion Q rows
   all_weaker f [] h = tt
   all_weaker f (q ∷ qs) h = (f q h.0, all_weaker f qs h.1)
 
-  the_one : {X : Type 0} (a b : X) → Some a ≡ Some b → a ≡ b
-  the_one a b e = cc
-
-  some_none : {X : Type 0} (a : X) (o : Option X) → o ≡ None → o ≡ Some a → ⊥
-  some_none a o e f = cc
-
-  pub none_clash : (x : Stmt) (rows : List Stored) → least_row keys x rows ≡ None → AllByRecursion (λ q. is_clashing keys x q ≡ false) rows
+  pub none_clash : (x : Stmt) (rows : List StoredRow) → least_row keys x rows ≡ None → AllByRecursion (λ q. is_clashing keys x q ≡ false) rows
   none_clash x [] e = tt
   none_clash x (q ∷ qs) e = elim (cases_Bool (is_clashing keys x q)) [
-    | inl c ↦ absurd (some_none (first_of q (least_row keys x qs)) (least_row keys x (q ∷ qs)) e (cond-true (is_clashing keys x q) (Some (first_of q (least_row keys x qs))) (least_row keys x qs) c))
+    | inl c ↦ absurd (none_and_some (first_of q (least_row keys x qs)) (least_row keys x (q ∷ qs)) e (cond-true (is_clashing keys x q) (Some (first_of q (least_row keys x qs))) (least_row keys x qs) c))
     | inr c ↦ (c, none_clash x qs (sym (cond-false (is_clashing keys x q) (Some (first_of q (least_row keys x qs))) (least_row keys x qs) c) ∙ e))
   ]
 
   -- the first of a row and what is least among others
-  first_is : (x : Stmt) (q : Stored) (qs : List Stored) → is_clashing keys x q ≡ true → (o : Option Stored) → least_row keys x qs ≡ o → ((s : Stored) → o ≡ Some s → IsLeastRow x qs s) → IsLeastRow x (q ∷ qs) (first_of q o)
+  first_is : (x : Stmt) (q : StoredRow) (qs : List StoredRow) → is_clashing keys x q ≡ true → (o : Option StoredRow) → least_row keys x qs ≡ o → ((s : StoredRow) → o ≡ Some s → IsLeastRow x qs s) → IsLeastRow x (q ∷ qs) (first_of q o)
   first_is x q qs c None e h = record {
     clashing = c;
     one = λ P a. a.0;
@@ -106,11 +101,11 @@ module _ (keys : ℕ → ℕ) where
         })
       ]
 
-  pub least_is : (x : Stmt) (rows : List Stored) (r : Stored) → least_row keys x rows ≡ Some r → IsLeastRow x rows r
-  least_is x [] r e = absurd (some_none r None refl e)
+  pub least_is : (x : Stmt) (rows : List StoredRow) (r : StoredRow) → least_row keys x rows ≡ Some r → IsLeastRow x rows r
+  least_is x [] r e = absurd (none_and_some r None refl e)
   least_is x (q ∷ qs) r e = elim (cases_Bool (is_clashing keys x q)) [
     | inl c ↦
-        let f = the_one (first_of q (least_row keys x qs)) r (sym (cond-true (is_clashing keys x q) (Some (first_of q (least_row keys x qs))) (least_row keys x qs) c) ∙ e) in
+        let f = same_some (first_of q (least_row keys x qs)) r (sym (cond-true (is_clashing keys x q) (Some (first_of q (least_row keys x qs))) (least_row keys x qs) c) ∙ e) in
         subst (IsLeastRow x (q ∷ qs)) f (first_is x q qs c (least_row keys x qs) refl (λ s k. least_is x qs s k))
     | inr c ↦
         let l = least_is x qs r (sym (cond-false (is_clashing keys x q) (Some (first_of q (least_row keys x qs))) (least_row keys x qs) c) ∙ e) in

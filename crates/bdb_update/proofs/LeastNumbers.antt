@@ -11,6 +11,8 @@ use Rattle.bdb_base.specs.SameLemmas.{same_tuple-Decides}
 use Rattle.bdb_base.specs.declared.kinds.Stmt.{Stmt}
 use Rattle.bdb_base.specs.declared.tuple.Tuple.{Tuple}
 use Rattle.bdb_base.proofs.ClashLemmas.{same_tuple_turned}
+use Rattle.bdb_base.proofs.OptionLemmas.{some_of, one_there}
+use Rattle.bdb_base.proofs.Numbers.{number_le}
 use Rattle.bdb_keep.specs.Tables.{Tables}
 use Rattle.bdb_key.specs.Bytes.{num_bytes}
 use Rattle.bdb_key.specs.Grammar.{IsNum}
@@ -23,8 +25,6 @@ use Rattle.bdb_tables.specs.Names.{are_once, is_listed}
 use Rattle.bdb_tables.specs.Rows.{Tuples, HoldsTuples}
 use Rattle.bdb_tables.specs.Stored.{SameBut}
 use Rattle.bdb_tables.proofs.SameLemmas.{tuples_still}
-use Rattle.bdb_val.proofs.HeldLemmas.{some_is}
-use Rattle.bdb_worlds.proofs.ReadLemmas.{number_le}
 use Rattle.bdb_update.specs.Numbering.{HoldsSomeTuples, IsLeastNumber, TakesLeast}
 
 some_number : Option ℕ → ℕ
@@ -33,9 +33,6 @@ some_number (Some n) = n
 
 abbrev tuples_of : List Stmt → List Tuple
 tuples_of xs = map (λ x. x.tuple) xs
-
-same_some : {X : Type 0} (v w : X) (o : Option X) → o ≡ Some v → o ≡ Some w → v ≡ w
-same_some v w o a b = cc
 
 -- ---- the numbers of tuples, each once
 
@@ -73,7 +70,7 @@ module _ (told : List Stmt) (ts : Tuples) (t : Tables) (h : HoldsTuples told ts 
   named : (x : Stmt) (xs : List Stmt) → AreTold (x ∷ xs) → ts.tuple (number x.tuple) ≡ Some x.tuple
   unfolding number some_number
   named x xs a =
-      let n = some_is (ts.number x.tuple) (a x.tuple (or_left (same_tuple x.tuple x.tuple) (list_any (same_tuple x.tuple) (tuples_of xs)) ((same_tuple-Decides x.tuple x.tuple).1 refl))) in
+      let n = some_of (ts.number x.tuple) (a x.tuple (or_left (same_tuple x.tuple x.tuple) (list_any (same_tuple x.tuple) (tuples_of xs)) ((same_tuple-Decides x.tuple x.tuple).1 refl))) in
       ap (λ o. ts.tuple (some_number o)) n.1 ∙ h.numbered x.tuple n.0 n.1
 
   -- a number that is listed stands for the tuple of a statement
@@ -111,7 +108,7 @@ module _ (told : List Stmt) (ts : Tuples) (t : Tables) (h : HoldsTuples told ts 
       by false e r = and_from (not (is_listed (number x.tuple) (numbers xs))) (are_once (numbers xs))
           (not_from_false (is_listed (number x.tuple) (numbers xs)) (false_from_ne_true (is_listed (number x.tuple) (numbers xs)) (λ f.
           let l = listed_is (number x.tuple) xs (rest_told x xs a) f in
-          let same : l.tuple ≡ x.tuple = same_some l.tuple x.tuple (ts.tuple (number x.tuple)) l.named (named x xs a) in
+          let same : l.tuple ≡ x.tuple = one_there l.tuple x.tuple (ts.tuple (number x.tuple)) l.named (named x xs a) in
           false≢true (sym e ∙ ap (λ u. list_any (same_tuple u) (tuples_of xs)) (sym same) ∙ l.stated)))) r
 
   has_row : (n : ℕ) (u : Tuple) → ts.tuple n ≡ Some u → is_some (tables.get t (place tuple_codec n)) ≡ true
@@ -154,7 +151,7 @@ takes_nothing t u x e none tid has = absurd (some_none (num_bytes tid) (tables.g
 
 pub takes_number : (t u : Tables) (x : Tuple) (tid : ℕ) → IsLeastNumber t tid → HasAt tuple_ix_codec u x (Some tid) → TakesLeast t u x
 takes_number t u x tid least there none n has =
-    let bytes : num_bytes tid ≡ num_bytes n = same_some (num_bytes tid) (num_bytes n) (tables.get u (place tuple_ix_codec x)) there.found has.found in
+    let bytes : num_bytes tid ≡ num_bytes n = one_there (num_bytes tid) (num_bytes n) (tables.get u (place tuple_ix_codec x)) there.found has.found in
     let one : tid ≡ n = number_rows_are_one tid n there.in_grammar has.in_grammar bytes in
     subst (IsLeastNumber t) one least
 

@@ -7,7 +7,8 @@ use Rattle.bdb_base.specs.Bases.{Contents, IsValid, stands, without_statement}
 use Rattle.bdb_base.specs.declared.kinds.Stmt.{Stmt}
 use Rattle.bdb_base.specs.declared.tuple.Tuple.{Tuple}
 use Rattle.bdb_base.proofs.BaseLemmas.{take_is_valid}
-use Rattle.bdb_base.proofs.WorldLemmas.{explicit_tuple}
+use Rattle.bdb_base.proofs.WorldLemmas.{explicit_tuple, stands_is_explicit}
+use Rattle.bdb_base.proofs.OptionLemmas.{some_of}
 use Rattle.bdb_canon.specs.Sizes.{counts_of}
 use Rattle.bdb_canon.specs.declared.sizes.Counts.{Counts}
 use Rattle.bdb_keep.specs.Seen.{Seen, GoesOn}
@@ -20,24 +21,22 @@ use Rattle.bdb_tables.specs.Rows.{row_for}
 use Rattle.bdb_tables.specs.declared.tab.TabError.{TabError}
 use Rattle.bdb_tables.specs.declared.tab.TabError.TheVariants as stop
 use Rattle.bdb_val.specs.Steps.{IsChanging, counted}
-use Rattle.bdb_val.proofs.HeldLemmas.{some_is}
 use Rattle.bdb_update.specs.Calls.{MayMeet, SomeMayMeet, without_one}
 use Rattle.bdb_update.specs.Differing.{has_told}
 use Rattle.bdb_update.specs.Joining.{IsWorld, is_of_tuples}
 use Rattle.bdb_update.specs.Keys.{keys_of}
 use Rattle.bdb_update.specs.Leaving.{IsGoneWith, CountsLeft, MayLose, counts_less, standing, TriesDrop}
-use Rattle.bdb_update.specs.Looking.{IsPlace, is_own}
+use Rattle.bdb_update.specs.Looking.{IsFinding, is_own}
 use Rattle.bdb_update.specs.Parting.{MayPart, SomeMayPart, SomeHasParted, Parts, PartsRows, SomeHasFewerWorlds, LosesWorlds, CountsWorlds, LosesRows, LosesNumber, TellsNumber, Leaves}
 use Rattle.bdb_tables.specs.Stored.{SameBut, Stores}
 use Rattle.bdb_update.specs.Tallies.{HasRowCount}
 use Rattle.bdb_update.specs.declared.leaving.Gone.{Gone}
-use Rattle.bdb_update.specs.declared.looking.Place.{Place}
+use Rattle.bdb_update.specs.declared.looking.Finding.{Finding}
 use Rattle.bdb_update.proofs.CallLemmas.{IsQuiet}
 use Rattle.bdb_update.proofs.ComeLemmas.{rows_one, rows_same}
 use Rattle.bdb_update.proofs.ExamineLemmas.{world_if_any}
 use Rattle.bdb_update.proofs.JudgeLemmas.{none_standing, standing_found}
 use Rattle.bdb_update.proofs.OneStored.{explicit_state}
-use Rattle.bdb_tables.proofs.SignLemmas.{stands_is_explicit}
 use Rattle.bdb_update.proofs.PartCountLemmas.{one_statement_less, tuples_less}
 use Rattle.bdb_update.proofs.RowLemmas.{rows_of}
 use Rattle.bdb_update.proofs.StoredCounts.{over_count, over_few, stored_count}
@@ -83,7 +82,7 @@ counts_left t u v w x g taken gone went parts part_rows loses worlds rows_less n
 
 -- ---- where a statement stands
 
-module _ (t : Tables) (c : Counts) (x : Stmt) (p : Place) (place : IsPlace t x p) (b : Contents) (may : MayMeet t c x b) where
+module _ (t : Tables) (c : Counts) (x : Stmt) (p : Finding) (place : IsFinding t x p) (b : Contents) (may : MayMeet t c x b) where
   own_stands : list_any (is_own x) p.rows.items ≡ true → stands b.stmts x ≡ true
   own_stands e = standing_found t x p place b may.base.stored may.base.valid may.belongs e
 
@@ -113,19 +112,19 @@ module _ (t : Tables) (c : Counts) (x : Stmt) (p : Place) (place : IsPlace t x p
   world_here tid e w h own =
       let s = may.base.stored in
       let state = explicit_state b.stmts x.path x.tuple x.sign (sym (stands_is_explicit b.stmts x) ∙ stood tid e) in
-      let n = some_is (number_of s.names x.path) (s.stored.worlds x.path ∙ state) in
+      let n = some_of (number_of s.names x.path) (s.stored.worlds x.path ∙ state) in
       let path = names_are_one _ w.users s.names w.names t s.stored.states h n.0 in
       let named : number_of w.names x.path ≡ Some n.0 = h.names.named n.0 x.path (sym path ∙ s.stored.states.names.numbered x.path n.0 n.1) in
       world_if_any t x.path p.len p.wid place.reaches w h own (ap is_some named)
 
-pub tid_is : (x : Stmt) (p : Place) (tid : ℕ) → standing x p ≡ Some tid → p.tid ≡ Some tid
+pub tid_is : (x : Stmt) (p : Finding) (tid : ℕ) → standing x p ≡ Some tid → p.tid ≡ Some tid
 tid_is x p tid e = elim (cases_Bool (list_any (is_own x) p.rows.items)) [
   | inl o ↦ sym (cond-true (list_any (is_own x) p.rows.items) p.tid None o) ∙ e
   | inr n ↦ let f : None ≡ Some tid = sym (cond-false (list_any (is_own x) p.rows.items) p.tid None n) ∙ e in absurd cc
 ]
 
 -- what is known of a statement that stands, where tables have only been read since
-module _ (old mid : Seen) (c : Counts) (x : Stmt) (p : Place) (place : IsPlace old.kept x p) (q : IsQuiet old mid) (tid : ℕ) (e : standing x p ≡ Some tid) where
+module _ (old mid : Seen) (c : Counts) (x : Stmt) (p : Finding) (place : IsFinding old.kept x p) (q : IsQuiet old mid) (tid : ℕ) (e : standing x p ≡ Some tid) where
   pub some_may_part : SomeMayMeet old.kept c x → SomeMayPart mid.kept x
   some_may_part s = subst (λ (t : Tables). SomeMayPart t x) (sym q.kept) (record { base = s.base; stored = s.may.base.stored; may = may_part old.kept c x p place s.base s.may tid e })
 
@@ -168,7 +167,7 @@ module _ (b : Contents) (x : Stmt) (may : MayPart b x) (g : Gone) (h : IsGoneWit
 
 -- ---- what comes of trying
 
-pub drop_absent : (old new : Seen) (c : Counts) (x : Stmt) (p : Place) → IsQuiet old new → IsPlace old.kept x p → standing x p ≡ None → TriesDrop old new c x (Ok None)
+pub drop_absent : (old new : Seen) (c : Counts) (x : Stmt) (p : Finding) → IsQuiet old new → IsFinding old.kept x p → standing x p ≡ None → TriesDrop old new c x (Ok None)
 drop_absent old new c x p q place e b may = record {
   none = none_stood old.kept c x p place b may e;
   untouched = record { kept = q.kept; writes = q.writes; counts = refl; goes_on = q.goes };
@@ -178,7 +177,7 @@ pub drop_stops : {T : Type 0} (old new : Seen) (c : Counts) (x : Stmt) (e : TabE
 drop_stops old new c x stop.Fault h b may = record { rose = h.steps.cause.rose refl; stopped = record { dropped = h.steps.err; counts = refl } }
 drop_stops old new c x stop.Memory h b may = record { dropped = h.steps.err; counts = refl }
 
-module _ (old mid new : Seen) (c : Counts) (x : Stmt) (p : Place) (place : IsPlace old.kept x p) (q : IsQuiet old mid) (tid : ℕ) (e : standing x p ≡ Some tid) (g : Gone) (left : CountsLeft mid.kept x g) where
+module _ (old mid new : Seen) (c : Counts) (x : Stmt) (p : Finding) (place : IsFinding old.kept x p) (q : IsQuiet old mid) (tid : ℕ) (e : standing x p ≡ Some tid) (g : Gone) (left : CountsLeft mid.kept x g) where
   stored_now : (b : Contents) → MayMeet old.kept c x b → Stores mid.kept b
   stored_now b may = subst (λ (t : Tables). Stores t b) (sym q.kept) may.base.stored
 

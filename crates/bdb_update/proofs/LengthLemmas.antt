@@ -1,9 +1,9 @@
 -- Lengths of keys that are the same where it matters: the worlds by them, the rows that are stored, and the sizes.
-use Rattle.std.proofs.Common.{◌≡◌, ◌∙◌, ℕ, zero, suc, ◌+◌, Bool, true, not, ◌&&◌, ◌||◌, nat_eq, cond, List, [], ◌∷◌, ◌++◌, length, map, take, sum_by, refl, ap, sym, inl, inr, Option, Some, None, is_some}
-use Rattle.std.specs.List.{flat_map, list_all, list_any, slice_get}
+use Rattle.std.proofs.Common.{◌≡◌, ◌∙◌, ℕ, ◌+◌, Bool, true, not, ◌&&◌, ◌||◌, nat_eq, cond, List, [], ◌∷◌, ◌++◌, length, map, take, sum_by, refl, ap, sym, inl, inr, Option, Some, None, is_some}
+use Rattle.std.specs.List.{flat_map, list_all, list_any}
 use Rattle.std.proofs.lemmas.Bool.{and_from, and_parts, eq-eqb, eqb-true, false≢true, or_cases}
 use Rattle.std.proofs.lemmas.List.Sums.{sum_by-cons}
-use Rattle.bdb_base.specs.Bases.{Contents, belongs, fits_definition, key_at, key_lengths, tuple_count, with_relation, world_count}
+use Rattle.bdb_base.specs.Bases.{Contents, belongs, key_at, key_lengths, tuple_count, with_relation, world_count}
 use Rattle.bdb_base.specs.Order.{tuple_cmp}
 use Rattle.bdb_base.specs.OrderLemmas.{tuple_exact}
 use Rattle.bdb_base.specs.Same.{same_tuple, same_values}
@@ -18,9 +18,8 @@ use Rattle.bdb_base.specs.declared.kinds.RelDef.{RelDef}
 use Rattle.bdb_base.specs.declared.kinds.Sign.{Sign}
 use Rattle.bdb_base.specs.declared.kinds.Sign.TheVariants.{Plus, Minus}
 use Rattle.bdb_base.specs.declared.kinds.Stmt.{Stmt}
-use Rattle.bdb_base.specs.declared.kinds.Value.{Value}
 use Rattle.bdb_base.specs.declared.tuple.Tuple.{Tuple}
-use Rattle.bdb_base.proofs.BaseLemmas.{belongs_parts, contradicted_elsewhere}
+use Rattle.bdb_base.proofs.BaseLemmas.{belongs_parts, contradicted_elsewhere, definition_stays}
 use Rattle.bdb_base.proofs.SetLemmas.{list_all-put_in}
 use Rattle.bdb_canon.specs.Canonical.{row_count}
 use Rattle.bdb_canon.specs.Sizes.{counts_of}
@@ -56,11 +55,6 @@ row_elsewhere keys more stmts k (Some w) (Some u) h =
     ∙ ap (λ m. cond (nat_eq u.rel k.1 && same_values (take (more u.rel) u.vals) k.2) m None) (sym (mark_elsewhere keys more stmts w u (sym e)))
 
 -- ---- a relation more leaves the keys of the tuples of statements that belong to a catalog
-
-definition_stays : (rels : List RelDef) (def : RelDef) (n : ℕ) (vals : List Value) → fits_definition (slice_get rels n) vals ≡ true → slice_get (rels ++ def ∷ []) n ≡ slice_get rels n
-definition_stays [] def n vals h = absurd (false≢true h)
-definition_stays (r ∷ rels) def zero vals h = refl
-definition_stays (r ∷ rels) def (suc n) vals h = definition_stays rels def n vals h
 
 own_length : (c : Catalog) (def : RelDef) (x : Stmt) → belongs c x ≡ true → key_lengths (c.rels ++ def ∷ []) x.tuple.rel ≡ key_lengths c.rels x.tuple.rel
 own_length c def x h = ap key_at (definition_stays c.rels def x.tuple.rel x.tuple.vals (belongs_parts c x h).tuple)

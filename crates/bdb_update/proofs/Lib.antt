@@ -15,6 +15,7 @@ pub mod EmptyLemmas
 pub mod ExamineLemmas
 pub mod ExplicitLemmas
 pub mod FillLemmas
+pub mod FindingLemmas
 pub mod GrammarLemmas
 pub mod GroupLemmas
 pub mod HoldingLemmas
@@ -40,7 +41,6 @@ pub mod PartLemmas
 pub mod PartRowLemmas
 pub mod PartTupleLemmas
 pub mod PartWorldLemmas
-pub mod PlaceLemmas
 pub mod PrefixLemmas
 pub mod QuietLemmas
 pub mod ReachLemmas

@@ -3,7 +3,7 @@ use Rattle.std.proofs.Common.{◌≡◌, ◌≢◌, ◌∙◌, ℕ, ◌<◌, Boo
 use Rattle.std.specs.List.{list_any}
 use Rattle.std.specs.Option.{option_map}
 use Rattle.std.specs.FinMap as tables
-use Rattle.std.proofs.lemmas.Bool.{cases_Bool, and_parts, and_from, false≢true, false_from_ne_true, or_left, or_cases, cond-true, cond-false, eqb-true, eq-eqb}
+use Rattle.std.proofs.lemmas.Bool.{cases_Bool, and_parts, and_from, false≢true, false_from_ne_true, or_left, or_cases, cond-true, cond-false, eqb-true, eq-eqb, or_parts}
 use Rattle.bdb_base.specs.Bases.{with_statement}
 use Rattle.bdb_base.specs.Clash.{clash, key_of, same_key}
 use Rattle.bdb_base.specs.OrderLemmas.{statement_exact}
@@ -20,6 +20,7 @@ use Rattle.bdb_base.proofs.ClashLemmas.{same_tuple_turned}
 use Rattle.bdb_base.proofs.SegmentLemmas.{differs_by_length}
 use Rattle.bdb_base.proofs.SetLemmas.{list_any-put_in}
 use Rattle.bdb_base.proofs.WorldLemmas.{nothing_stands, plain_inheritance, worlds_are_consistent}
+use Rattle.bdb_base.proofs.OptionLemmas.{some_of, one_there}
 use Rattle.bdb_keep.specs.Tables.{Tables}
 use Rattle.bdb_paths.proofs.StateLemmas.{put_makes_states}
 use Rattle.bdb_tables.specs.Codec.{place}
@@ -27,9 +28,9 @@ use Rattle.bdb_tables.specs.InUse.{ValKey, val_codec}
 use Rattle.bdb_tables.specs.Marks.{mark_of}
 use Rattle.bdb_tables.specs.Names.{Names, AreNames, path_of, number_of, is_named}
 use Rattle.bdb_tables.specs.Rows.{Tuples, HoldsTuples, HoldsRows, row_for}
-use Rattle.bdb_tables.proofs.SignLemmas.{or_false, put_unfelt}
+use Rattle.bdb_tables.proofs.SignLemmas.{put_unfelt}
 use Rattle.bdb_val.specs.Settling.{row_key}
-use Rattle.bdb_val.proofs.HeldLemmas.{some_is, held_names, right_row}
+use Rattle.bdb_val.proofs.HeldLemmas.{held_names, right_row}
 use Rattle.bdb_update.specs.Tallies.{vals_at}
 use Rattle.bdb_update.proofs.BetweenLemmas.{IsLost}
 use Rattle.bdb_update.proofs.RowLemmas.{marked_stated, stated_marked}
@@ -106,7 +107,7 @@ module _ (keys : ℕ → ℕ) where
             ∙ or_left (same_path x.path (i ∷ w) && (same_tuple x.tuple y && same_sign x.sign x.sign)) (explicit stmts (i ∷ w) y x.sign)
             (and_from (same_path x.path (i ∷ w)) (same_tuple x.tuple y && same_sign x.sign x.sign) ((same_path-Decides x.path (i ∷ w)).1 p)
             (and_from (same_tuple x.tuple y) (same_sign x.sign x.sign) e ((same_sign-Decides x.sign x.sign).1 refl))) in
-            false≢true (sym (or_false (explicit next (i ∷ w) y x.sign) (stated keys next w y x.sign && not (contradicted keys next (i ∷ w) y x.sign)) (b x.sign)).0 ∙ here))
+            false≢true (sym (or_parts (explicit next (i ∷ w) y x.sign) (stated keys next w y x.sign && not (contradicted keys next (i ∷ w) y x.sign)) (b x.sign)).0 ∙ here))
 
     -- two tuples of one relation and key that a world has with plus are one
     rivals_are_one : IsConsistent keys stmts → (y z : Tuple) → stated keys stmts x.path y Plus ≡ true → stated keys stmts x.path z Plus ≡ true
@@ -128,9 +129,6 @@ module _ (keys : ℕ → ℕ) where
 
   some_none : {X : Type 0} (v : X) → Some v ≡ None → ⊥
   some_none v e = cc
-
-  same_some : {X : Type 0} (v w : X) (o : Option X) → o ≡ Some v → o ≡ Some w → v ≡ w
-  same_some v w o a b = cc
 
   none_is : {X : Type 0} (bytes : X → List ℕ) (o : Option X) → option_map bytes o ≡ None → o ≡ None
   none_is bytes None e = refl
@@ -199,9 +197,9 @@ module _ (keys : ℕ → ℕ) where
 
     pub rival_rows_are_one : (p q : List ℕ) → IsRivalRow p → IsRivalRow q → p ≡ q
     rival_rows_are_one p q a b =
-        let worlds : a.key.0 ≡ b.key.0 = same_some a.key.0 b.key.0 (number_of s.all x.path) (s.all_names.named a.key.0 x.path a.world) (s.all_names.named b.key.0 x.path b.world) in
+        let worlds : a.key.0 ≡ b.key.0 = one_there a.key.0 b.key.0 (number_of s.all x.path) (s.all_names.named a.key.0 x.path a.world) (s.all_names.named b.key.0 x.path b.world) in
         let one : a.tuple ≡ b.tuple = rivals_are_one stmts x s.consistent a.tuple b.tuple a.plus b.plus a.like b.like in
-        let numbers : a.key.3 ≡ b.key.3 = same_some a.key.3 b.key.3 (s.tuples.number a.tuple) (s.held.named a.key.3 a.tuple a.named)
+        let numbers : a.key.3 ≡ b.key.3 = one_there a.key.3 b.key.3 (s.tuples.number a.tuple) (s.held.named a.key.3 a.tuple a.named)
         (ap s.tuples.number one ∙ s.held.named b.key.3 b.tuple b.named) in
         let same_key_made : a.key ≡ b.key = sym a.keyed ∙ ap (λ n. row_key keys n a.key.3 a.tuple) worlds ∙ ap (λ n. row_key keys b.key.0 n a.tuple) numbers ∙ ap (row_key keys b.key.0 b.key.3) one ∙ b.keyed in
         sym a.spelled ∙ ap (place val_codec) same_key_made ∙ b.spelled
@@ -213,16 +211,16 @@ module _ (keys : ℕ → ℕ) where
       -- its world is a new one
       not_before : (z : List ℕ) → path_of s.few k.0 ≡ Some z → ⊥
       not_before z a =
-          let same : w ≡ z = same_some w z (path_of s.all k.0) p (s.names_stay k.0 z a) in
+          let same : w ≡ z = one_there w z (path_of s.all k.0) p (s.names_stay k.0 z a) in
           let b = at_first k z y e a (s.tuples_stood k.3 y q) in
           let c = at_all k z y e (p ∙ ap Some same) q in
           false≢true (ap is_some (sym none ∙ b ∙ sym c) ∙ here)
 
       no_state : is_state stmts w ≡ false
       no_state = false_from_ne_true (is_state stmts w) (λ a.
-          let n = some_is (number_of s.few w) (s.few_are w ∙ a) in
+          let n = some_of (number_of s.few w) (s.few_are w ∙ a) in
           let b = s.few_names.numbered w n.0 n.1 in
-          let one : n.0 ≡ k.0 = same_some n.0 k.0 (number_of s.all w) (s.all_names.named n.0 w (s.names_stay n.0 w b)) (s.all_names.named k.0 w p) in
+          let one : n.0 ≡ k.0 = one_there n.0 k.0 (number_of s.all w) (s.all_names.named n.0 w (s.names_stay n.0 w b)) (s.all_names.named k.0 w p) in
           not_before w (ap (path_of s.few) (sym one) ∙ b))
 
       on_the_way : is_prefix w x.path ≡ true
@@ -275,7 +273,7 @@ module _ (keys : ℕ → ℕ) where
           let at : place val_codec k ≡ 11 ∷ j = ap (λ (z : List ℕ). 11 ∷ z) entry.key_reads.spelled in
           let there = some_row val_codec.row_bytes (row_t k) r (sym (s.first_rows.rows k fits) ∙ ap (tables.get t) at ∙ a) in
           let named = held_names keys stmts s.told_first s.few s.first_tuples t s.first_held k there in
-          let w = some_is (path_of s.few k.0) named.0 in
+          let w = some_of (path_of s.few k.0) named.0 in
           let rows_are : row_u k ≡ row_t k =
           at_all k w.0 named.1.0 named.1.2 (s.names_stay k.0 w.0 w.1) (s.tuples_stay k.3 named.1.0 named.1.1) ∙ sym (at_first k w.0 named.1.0 named.1.2 w.1 named.1.1) in
           absurd (other (ap (tables.get t) (sym at) ∙ s.first_rows.rows k fits ∙ ap (option_map val_codec.row_bytes) (sym rows_are) ∙ sym (s.rows.rows k fits) ∙ ap (tables.get u) at))
@@ -288,7 +286,7 @@ module _ (keys : ℕ → ℕ) where
           let at : place val_codec k ≡ 11 ∷ j = ap (λ (z : List ℕ). 11 ∷ z) entry.key_reads.spelled in
           let here = some_row val_codec.row_bytes (row_u k) r (sym (s.rows.rows k fits) ∙ ap (tables.get u) at ∙ b) in
           let named = held_names keys stmts s.told s.all s.tuples u s.held k here in
-          let w = some_is (path_of s.all k.0) named.0 in
+          let w = some_of (path_of s.all k.0) named.0 in
           let none = none_is val_codec.row_bytes (row_t k) (sym (s.first_rows.rows k fits) ∙ ap (tables.get t) at ∙ a) in
           let gone = none_is val_codec.row_bytes (row_v k) (sym (s.last_rows.rows k fits) ∙ ap (tables.get v) at ∙ sym same ∙ a) in
           rival_row k w.0 named.1.0 named.1.2 w.1 named.1.1 none here gone (11 ∷ j) at

@@ -1,5 +1,5 @@
 -- A base with statements of one path in place of others: when it is valid, and how many tuples it has.
-use Rattle.std.proofs.Common.{◌≡◌, ◌∙◌, ℕ, ◌+◌, ◌≤◌, Bool, true, false, not, ◌&&◌, ◌||◌, cond, List, [], ◌∷◌, ◌++◌, None, refl, ap, sym, subst, inl, inr, arith, filter, length, map}
+use Rattle.std.proofs.Common.{◌≡◌, ◌∙◌, ℕ, ◌+◌, ◌≤◌, Bool, true, false, not, ◌&&◌, ◌||◌, List, [], ◌∷◌, ◌++◌, None, refl, ap, sym, subst, inl, inr, arith, filter, length, map}
 use Rattle.std.specs.Bool.{Decides}
 use Rattle.std.specs.List.{list_any, list_all}
 use Rattle.std.specs.Ordering.{is_eq}
@@ -23,13 +23,15 @@ use Rattle.bdb_base.specs.Worlds.{contradicted}
 use Rattle.bdb_base.proofs.BaseLemmas.{filter_is_valid, take_is_valid}
 use Rattle.bdb_base.proofs.ClashLemmas.{turned}
 use Rattle.bdb_base.proofs.CountLemmas.{list_any-map, distinct_count-le, distinct_count-same, one_unless}
-use Rattle.bdb_base.proofs.ListLemmas.{list_all_weaker, list_all_both, list_any_fails, filter_kept_one, filter_dropped_one}
+use Rattle.bdb_base.proofs.ListLemmas.{list_all_weaker, list_all_both, list_any_fails, filter_kept_one, filter_dropped_one, filter_same, or_false}
 use Rattle.bdb_base.proofs.SetLemmas.{put_keeps_order, filter_keeps_order, members_make_set, is_eq-Equal}
-use Rattle.bdb_base.proofs.UpdateLemmas.{list_any-with, list_all-with, with_keeps_order, none_passes, is_free, is_free_at, is_free_elsewhere, free_everywhere}
+use Rattle.bdb_base.proofs.UpdateLemmas.{list_any-with, list_all-with, with_keeps_order, none_passes, is_free, is_free_at, is_free_elsewhere, free_everywhere, without_keeps_order}
+use Rattle.bdb_base.proofs.FindLemmas.{list_any-filter}
+use Rattle.bdb_base.proofs.BoolLemmas.{and_false, or_true}
 use Rattle.bdb_paths.proofs.StateLemmas.{state_is_listed}
 use Rattle.bdb_update.specs.Calls.{are_apart}
 use Rattle.bdb_update.specs.Reached.{told_elsewhere, lost_of, fresh_of}
-use Rattle.bdb_update.proofs.ReachedLemmas.{any-filter, any_left, length_left, length_with, without_keeps_order}
+use Rattle.bdb_update.proofs.ReachedLemmas.{any_left, length_left, length_with}
 
 -- ---- a part of a valid base is valid
 
@@ -42,7 +44,7 @@ part_is_valid : (c : Catalog) (xs ys : List Stmt) → ascending statement_cmp xs
 part_is_valid c xs ys s sub v =
     let q : Stmt → Bool = stands xs in
     let o = filter_keeps_order statement_exact q ys v.stmts.sorted in
-    let same : filter q ys ≡ xs = members_make_set statement_exact (filter q ys) xs o s (λ z. any-filter (λ y. is_eq (statement_cmp y z)) q ys ∙ both z) in
+    let same : filter q ys ≡ xs = members_make_set statement_exact (filter q ys) xs o s (λ z. list_any-filter (λ y. is_eq (statement_cmp y z)) q ys ∙ both z) in
     subst (IsValid c) same (record { catalog = v.catalog; stmts = filter_is_valid c ys q v.stmts o })
   where
     there : (z : Stmt) (zs : List Stmt) → list_any (λ y. stands xs y && is_eq (statement_cmp y z)) zs ≡ true → stands xs z ≡ true
@@ -188,10 +190,6 @@ module _ {X : Type 0} (same : X → X → Bool) (decides : (a b : X) → Decides
   -- an item is among those that pass a test where it passes and is among all
   any_kept : (q : X → Bool) (x : X) (xs : List X) → list_any (same x) (filter q xs) ≡ (q x && list_any (same x) xs)
   any_kept q x [] = sym (and_false (q x))
-    where
-      and_false : (b : Bool) → (b && false) ≡ false
-      and_false true = refl
-      and_false false = refl
   any_kept q x (y ∷ ys) = elim (cases_Bool (q y)) [
     | inl e ↦ ap (list_any (same x)) (filter_kept_one q y ys e) ∙ ap (λ b. same x y || b) (any_kept q x ys) ∙ elim (cases_Bool (same x y)) [
       | inl s ↦ ap (λ b. b || (q x && list_any (same x) ys)) s ∙ sym (ap (λ b. b && (same x y || list_any (same x) ys)) (ap q ((decides x y).0 s) ∙ e) ∙ ap (λ b. b || list_any (same x) ys) s)
@@ -225,14 +223,6 @@ module _ {X : Type 0} (same : X → X → Bool) (decides : (a b : X) → Decides
             ap one_unless (any_kept (not_in ys) x xs ∙ ap (λ z. not z && list_any (same x) xs) e) in
             omega arith
       ]
-    where
-      or_true : (b : Bool) → (b || true) ≡ true
-      or_true true = refl
-      or_true false = refl
-
-      or_false : (b : Bool) → (b || false) ≡ b
-      or_false true = refl
-      or_false false = refl
 
   -- each of two counts, with the others of the other, is that of both
   count_swapped : (xs ys : List X) → distinct_count same (filter (not_in ys) xs) + distinct_count same ys ≡ distinct_count same (filter (not_in xs) ys) + distinct_count same xs
@@ -252,10 +242,6 @@ told stmts = map (λ x. x.tuple) stmts
 
 has_told_tuple : (stmts : List Stmt) (u : Tuple) → list_any (same_tuple u) (told stmts) ≡ has_tuple stmts u
 has_told_tuple stmts u = list_any-map (same_tuple u) (λ x. x.tuple) stmts
-
-filter_same : {X : Type 0} (p q : X → Bool) → ((x : X) → p x ≡ q x) → (xs : List X) → filter p xs ≡ filter q xs
-filter_same p q h [] = refl
-filter_same p q h (x ∷ xs) = ap (λ b. cond b (x ∷ filter p xs) (filter p xs)) (h x) ∙ ap (λ ys. cond (q x) (x ∷ ys) ys) (filter_same p q h xs)
 
 -- statements kept by their tuples have the tuples kept
 told_kept : (q : Tuple → Bool) (xs : List Stmt) → told (filter (λ x. q x.tuple) xs) ≡ filter q (told xs)
@@ -294,7 +280,7 @@ module _ (c : Catalog) (stmts : List Stmt) (w : List ℕ) (gone come : List Stmt
   pub told_after : (reached : List Stmt) → reached ≡ filter (λ x. same_path x.path w) after → (u : Tuple) → (has_tuple reached u || told_elsewhere stmts w u) ≡ has_tuple after u
   told_after reached is u =
       ap (λ xs. has_tuple xs u || told_elsewhere stmts w u) is
-      ∙ ap (λ b. b || told_elsewhere stmts w u) (any-filter (λ x. same_tuple u x.tuple) (λ x. same_path x.path w) after)
+      ∙ ap (λ b. b || told_elsewhere stmts w u) (list_any-filter (λ x. same_tuple u x.tuple) (λ x. same_path x.path w) after)
       ∙ ap (λ b. list_any (λ x. same_path x.path w && same_tuple u x.tuple) after || b) (sym (elsewhere_stays (λ x. same_tuple u x.tuple)))
       ∙ split after
     where

@@ -2,7 +2,7 @@
 use Rattle.std.proofs.Common.{◌≡◌, ℕ, Bool, true, false, not, ◌&&◌, ◌||◌, nat_eq, cond, List, Option, Some, None, MatchOption, is_some, refl, ap, sym, subst, ◌∙◌, inl, inr}
 use Rattle.std.proofs.lemmas.Bool.{cases_Bool, false≢true, false_from_ne_true, or_from, eqb-true, eq-eqb, cond-true, cond-false}
 use Rattle.bdb_base.specs.Bases.{Contents, with_statement, without_statement}
-use Rattle.bdb_base.specs.OrderLemmas.{statement_exact, is_eq_tuple_cmp}
+use Rattle.bdb_base.specs.OrderLemmas.{statement_exact, is_eq_tuple_cmp, is_eq_nat_cmp}
 use Rattle.bdb_base.specs.Same.{same_tuple}
 use Rattle.bdb_base.specs.SameLemmas.{same_tuple-Decides}
 use Rattle.bdb_base.specs.Worlds.{explicit, stated}
@@ -11,7 +11,9 @@ use Rattle.bdb_base.specs.declared.kinds.Stmt.{Stmt}
 use Rattle.bdb_base.specs.declared.tuple.Tuple.{Tuple}
 use Rattle.bdb_base.proofs.SetLemmas.{list_any-put_in}
 use Rattle.bdb_base.proofs.WorldLemmas.{stated_tuples_are_explicit}
-use Rattle.bdb_names.proofs.TurnedLemmas.{number_eq}
+use Rattle.bdb_base.proofs.ClashLemmas.{same_tuple_turned}
+use Rattle.bdb_base.proofs.OptionLemmas.{same_some}
+use Rattle.bdb_base.proofs.BoolLemmas.{and_true, and_false}
 use Rattle.bdb_keep.specs.Tables.{Tables}
 use Rattle.bdb_key.specs.Grammar.{IsNum}
 use Rattle.bdb_key.specs.Rows.{IsTupleRow}
@@ -22,7 +24,7 @@ use Rattle.bdb_tables.specs.Names.{Names, path_of}
 use Rattle.bdb_tables.specs.Rows.{Tuples, HoldsTuples, has_key, row_named, row_for}
 use Rattle.bdb_tables.specs.Stored.{is_table, SameBut, StoredOver}
 use Rattle.bdb_tables.specs.Writes.{Gives, with_change, with_row_at}
-use Rattle.bdb_tables.proofs.SignLemmas.{one_answer, drop_unfelt}
+use Rattle.bdb_tables.proofs.SignLemmas.{drop_unfelt}
 use Rattle.bdb_tables.proofs.SameLemmas.{outside_one, change_same, same_then, gives_still, states_still}
 use Rattle.bdb_tables.proofs.WriteLemmas.{change_gives, change_elsewhere, gives_same}
 use Rattle.bdb_update.specs.ChangeLaws.{NumberPutStores, NumberTakenStores, DropLeavesTuples}
@@ -30,14 +32,8 @@ use Rattle.bdb_update.specs.Differing.{has_told}
 use Rattle.bdb_update.specs.Keys.{keys_of}
 use Rattle.bdb_update.specs.Numbering.{with_number, without_number, number_put, number_taken}
 
-tuple_turned : (a b : Tuple) → same_tuple a b ≡ same_tuple b a
-tuple_turned a b = one_answer (same_tuple a b) (same_tuple b a) (λ e. (same_tuple-Decides b a).1 (sym ((same_tuple-Decides a b).0 e))) (λ e. (same_tuple-Decides a b).1 (sym ((same_tuple-Decides b a).0 e)))
-
 some_none : {X : Type 0} (o : Option X) (x : X) → o ≡ None → o ≡ Some x → ⊥
 some_none o x a b = cc
-
-is_it : {X : Type 0} (x y : X) → Some x ≡ Some y → x ≡ y
-is_it x y e = cc
 
 -- a tuple of no statement has no row in any world
 unstated_mark : (keys : ℕ → ℕ) (stmts : List Stmt) (w : List ℕ) (u : Tuple) → has_told stmts u ≡ false → mark_of keys stmts w u ≡ None
@@ -103,7 +99,7 @@ module _ (t : Tables) (ts : Tuples) (tid : ℕ) (u : Tuple) (o : Option Tuple) (
 
   pub tuple_given : Gives tuple_codec (with_change tuple_ix_codec first (u, i)) (λ q. cond (nat_eq q tid) o (ts.tuple q))
   tuple_given = change_elsewhere tuple_codec tuple_ix_codec (λ e. cc) first (λ q. cond (nat_eq q tid) o (ts.tuple q)) (u, i)
-      (gives_same tuple_codec first (with_row_at tuple_codec ts.tuple (tid, o)) (λ q. cond (nat_eq q tid) o (ts.tuple q)) (λ q f. ap (λ b. cond b o (ts.tuple q)) (number_eq q tid))
+      (gives_same tuple_codec first (with_row_at tuple_codec ts.tuple (tid, o)) (λ q. cond (nat_eq q tid) o (ts.tuple q)) (λ q f. ap (λ b. cond b o (ts.tuple q)) (is_eq_nat_cmp q tid))
       (change_gives tuple_codec numbers_in_order t ts.tuple (tid, o) (record { key = num; row = tuple_fits }) h))
 
   pub number_given : Gives tuple_ix_codec (with_change tuple_ix_codec first (u, i)) (λ q. cond (same_tuple q u) i (ts.number q))
@@ -126,7 +122,7 @@ module _ (told : List Stmt) (ts : Tuples) (t : Tables) (x : Stmt) (tid : ℕ) (h
   named_more : (n : ℕ) (v : Tuple) → cond (nat_eq n tid) (Some x.tuple) (ts.tuple n) ≡ Some v → cond (same_tuple v x.tuple) (Some tid) (ts.number v) ≡ Some n
   named_more n v e = elim (cases_Bool (nat_eq n tid)) [
     | inl a ↦
-        let s : x.tuple ≡ v = is_it x.tuple v (sym (cond-true (nat_eq n tid) (Some x.tuple) (ts.tuple n) a) ∙ e) in
+        let s : x.tuple ≡ v = same_some x.tuple v (sym (cond-true (nat_eq n tid) (Some x.tuple) (ts.tuple n) a) ∙ e) in
         cond-true (same_tuple v x.tuple) (Some tid) (ts.number v) ((same_tuple-Decides v x.tuple).1 (sym s)) ∙ ap Some (sym (eqb-true n tid a))
     | inr a ↦
         let s : ts.tuple n ≡ Some v = sym (cond-false (nat_eq n tid) (Some x.tuple) (ts.tuple n) a) ∙ e in
@@ -137,7 +133,7 @@ module _ (told : List Stmt) (ts : Tuples) (t : Tables) (x : Stmt) (tid : ℕ) (h
   numbered_more : (v : Tuple) (n : ℕ) → cond (same_tuple v x.tuple) (Some tid) (ts.number v) ≡ Some n → cond (nat_eq n tid) (Some x.tuple) (ts.tuple n) ≡ Some v
   numbered_more v n e = elim (cases_Bool (same_tuple v x.tuple)) [
     | inl a ↦
-        let s : tid ≡ n = is_it tid n (sym (cond-true (same_tuple v x.tuple) (Some tid) (ts.number v) a) ∙ e) in
+        let s : tid ≡ n = same_some tid n (sym (cond-true (same_tuple v x.tuple) (Some tid) (ts.number v) a) ∙ e) in
         cond-true (nat_eq n tid) (Some x.tuple) (ts.tuple n) (eq-eqb n tid (sym s)) ∙ ap Some (sym ((same_tuple-Decides v x.tuple).0 a))
     | inr a ↦
         let s : ts.tuple n ≡ Some v = h.numbered v n (sym (cond-false (same_tuple v x.tuple) (Some tid) (ts.number v) a) ∙ e) in
@@ -155,8 +151,8 @@ module _ (told : List Stmt) (ts : Tuples) (t : Tables) (x : Stmt) (tid : ℕ) (h
   stated_more v =
       let after = list_any-put_in statement_exact (λ z. same_tuple z.tuple v) told x in
       elim (cases_Bool (same_tuple v x.tuple)) [
-        | inl a ↦ ap is_some (cond-true (same_tuple v x.tuple) (Some tid) (ts.number v) a) ∙ sym (after ∙ ap (λ b. b || has_told told v) (tuple_turned x.tuple v ∙ a))
-        | inr a ↦ ap is_some (cond-false (same_tuple v x.tuple) (Some tid) (ts.number v) a) ∙ h.stated v ∙ sym (after ∙ ap (λ b. b || has_told told v) (tuple_turned x.tuple v ∙ a))
+        | inl a ↦ ap is_some (cond-true (same_tuple v x.tuple) (Some tid) (ts.number v) a) ∙ sym (after ∙ ap (λ b. b || has_told told v) (same_tuple_turned x.tuple v ∙ a))
+        | inr a ↦ ap is_some (cond-false (same_tuple v x.tuple) (Some tid) (ts.number v) a) ∙ h.stated v ∙ sym (after ∙ ap (λ b. b || has_told told v) (same_tuple_turned x.tuple v ∙ a))
       ]
 
   tuples_more : HoldsTuples (with_statement told x) (with_number ts tid x.tuple) (number_put t tid x.tuple)
@@ -194,7 +190,7 @@ module _ (told less : List Stmt) (ts : Tuples) (t : Tables) (u : Tuple) (tid : �
         let s : ts.tuple n ≡ Some v = sym (cond-false (nat_eq n tid) None (ts.tuple n) a) ∙ e in
         let f : same_tuple v u ≡ false = false_from_ne_true (same_tuple v u) (λ c.
         let same : Some n ≡ Some tid = sym (h.named n v s) ∙ ap ts.number ((same_tuple-Decides v u).0 c) ∙ h.named tid u name in
-        false≢true (sym a ∙ eq-eqb n tid (is_it n tid same))) in
+        false≢true (sym a ∙ eq-eqb n tid (same_some n tid same))) in
         cond-false (same_tuple v u) None (ts.number v) f ∙ h.named n v s
   ]
 
@@ -205,7 +201,7 @@ module _ (told less : List Stmt) (ts : Tuples) (t : Tables) (u : Tuple) (tid : �
         let s : ts.tuple n ≡ Some v = h.numbered v n (sym (cond-false (same_tuple v u) None (ts.number v) a) ∙ e) in
         let f : nat_eq n tid ≡ false = false_from_ne_true (nat_eq n tid) (λ c.
         let same : Some v ≡ Some u = sym s ∙ ap ts.tuple (eqb-true n tid c) ∙ name in
-        false≢true (sym a ∙ (same_tuple-Decides v u).1 (is_it v u same))) in
+        false≢true (sym a ∙ (same_tuple-Decides v u).1 (same_some v u same))) in
         cond-false (nat_eq n tid) None (ts.tuple n) f ∙ s
   ]
 
@@ -217,17 +213,9 @@ module _ (told less : List Stmt) (ts : Tuples) (t : Tables) (u : Tuple) (tid : �
 
   stated_less : (v : Tuple) → is_some (cond (same_tuple v u) None (ts.number v)) ≡ has_told less v
   stated_less v = elim (cases_Bool (same_tuple v u)) [
-    | inl a ↦ ap is_some (cond-true (same_tuple v u) None (ts.number v) a) ∙ sym (gone v ∙ ap (λ b. has_told told v && not b) a ∙ never (has_told told v))
-    | inr a ↦ ap is_some (cond-false (same_tuple v u) None (ts.number v) a) ∙ h.stated v ∙ sym (gone v ∙ ap (λ b. has_told told v && not b) a ∙ always (has_told told v))
+    | inl a ↦ ap is_some (cond-true (same_tuple v u) None (ts.number v) a) ∙ sym (gone v ∙ ap (λ b. has_told told v && not b) a ∙ and_false (has_told told v))
+    | inr a ↦ ap is_some (cond-false (same_tuple v u) None (ts.number v) a) ∙ h.stated v ∙ sym (gone v ∙ ap (λ b. has_told told v && not b) a ∙ and_true (has_told told v))
   ]
-    where
-      never : (b : Bool) → (b && false) ≡ false
-      never true = refl
-      never false = refl
-
-      always : (b : Bool) → (b && true) ≡ b
-      always true = refl
-      always false = refl
 
   tuple_is : IsTupleRow u
   tuple_is = subst (λ o. MatchOption o (Unit {0}) IsTupleRow) name (h.tuples.written tid (h.sized tid u name))
@@ -257,14 +245,6 @@ number_taken_stores reached told less ns ts t b u tid h name none gone =
 
 pub drop_leaves_tuples : DropLeavesTuples
 drop_leaves_tuples stmts x none v = elim (cases_Bool (same_tuple v x.tuple)) [
-  | inl a ↦ ap (has_told (without_statement stmts x)) ((same_tuple-Decides v x.tuple).0 a) ∙ none ∙ sym (ap (λ b. has_told stmts v && not b) a ∙ never (has_told stmts v))
-  | inr a ↦ drop_unfelt (λ z. same_tuple z.tuple v) stmts x (tuple_turned x.tuple v ∙ a) ∙ sym (ap (λ b. has_told stmts v && not b) a ∙ always (has_told stmts v))
+  | inl a ↦ ap (has_told (without_statement stmts x)) ((same_tuple-Decides v x.tuple).0 a) ∙ none ∙ sym (ap (λ b. has_told stmts v && not b) a ∙ and_false (has_told stmts v))
+  | inr a ↦ drop_unfelt (λ z. same_tuple z.tuple v) stmts x (same_tuple_turned x.tuple v ∙ a) ∙ sym (ap (λ b. has_told stmts v && not b) a ∙ and_true (has_told stmts v))
 ]
-  where
-    never : (b : Bool) → (b && false) ≡ false
-    never true = refl
-    never false = refl
-
-    always : (b : Bool) → (b && true) ≡ b
-    always true = refl
-    always false = refl

@@ -11,7 +11,9 @@ use Rattle.bdb_base.specs.declared.kinds.Sign.{Sign}
 use Rattle.bdb_base.specs.declared.kinds.Stmt.{Stmt}
 use Rattle.bdb_base.specs.declared.tuple.Tuple.{Tuple}
 use Rattle.bdb_base.proofs.SetLemmas.{members_make_set}
-use Rattle.bdb_base.proofs.WorldLemmas.{valid_is_consistent, nothing_stands, explicit_tuple}
+use Rattle.bdb_base.proofs.WorldLemmas.{valid_is_consistent, nothing_stands, explicit_tuple, stands_is_explicit}
+use Rattle.bdb_base.proofs.BoolLemmas.{same_tests}
+use Rattle.bdb_base.proofs.OptionLemmas.{some_of}
 use Rattle.bdb_names.proofs.NamedLemmas.{names_are_one}
 use Rattle.bdb_keep.specs.Tables.{Tables}
 use Rattle.bdb_tables.specs.InUse.{tuple_codec, val_codec}
@@ -21,11 +23,11 @@ use Rattle.bdb_tables.specs.Names.{Names, path_of}
 use Rattle.bdb_tables.specs.Rows.{Tuples, row_for, HoldsRows}
 use Rattle.bdb_tables.specs.Stored.{StoredAs}
 use Rattle.bdb_tables.proofs.CatalogLemmas.{one_users, one_relations, one_contents}
-use Rattle.bdb_tables.proofs.SignLemmas.{one_answer, one_sign, sign_is_explicit, stands_is_explicit}
+use Rattle.bdb_tables.proofs.SignLemmas.{one_sign, sign_is_explicit}
 use Rattle.bdb_tables.proofs.WriteLemmas.{gives_one}
 use Rattle.bdb_val.specs.Middle.{worlds_of, HasExplicit}
 use Rattle.bdb_val.specs.Settling.{row_key}
-use Rattle.bdb_val.proofs.HeldLemmas.{some_is, held_rows_are_explicit}
+use Rattle.bdb_val.proofs.HeldLemmas.{held_rows_are_explicit}
 use Rattle.bdb_val.proofs.ReadLemmas.{key_fits}
 use Rattle.bdb_update.proofs.KeyLemmas.{lengths_fit}
 use Rattle.bdb_update.specs.Keys.{keys_of}
@@ -61,10 +63,10 @@ module _ (ns ms : Names) (ts us : Tuples) (t : Tables) (a b : Contents) (h : Sto
 
   explicit_too : (w : List ℕ) (u : Tuple) (s : Sign) → explicit a.stmts w u s ≡ true → explicit b.stmts w u s ≡ true
   explicit_too w u s e =
-      let wid = some_is (ns.number w) (h.worlds w ∙ explicit_state a.stmts w u s e) in
+      let wid = some_of (ns.number w) (h.worlds w ∙ explicit_state a.stmts w u s e) in
       let path : path_of ns wid.0 ≡ Some w = h.states.names.numbered w wid.0 wid.1 in
       let path2 : path_of ms wid.0 ≡ Some w = sym (names_are_one _ _ ns ms t h.states k.states wid.0) ∙ path in
-      let tid = some_is (ts.number u) (h.tuples.stated u ∙ explicit_tuple a.stmts w u s e) in
+      let tid = some_of (ts.number u) (h.tuples.stated u ∙ explicit_tuple a.stmts w u s e) in
       let name : ts.tuple tid.0 ≡ Some u = h.tuples.numbered u tid.0 tid.1 in
       let name2 : us.tuple tid.0 ≡ Some u = sym (gives_one tuple_codec tuple_rows_are_one t ts.tuple us.tuple h.tuples.tuples k.tuples.tuples tid.0 (h.tuples.sized tid.0 u name)) ∙ name in
       let p = explicit_rows ns ts t a h v in
@@ -83,7 +85,7 @@ stored_base_is_one t a b p q v z =
     let rels : a.catalog.rels ≡ b.catalog.rels = one_relations t a.catalog.rels b.catalog.rels h.rels k.rels v.catalog.few_rels z.catalog.few_rels in
     let stmts : a.stmts ≡ b.stmts = members_make_set statement_exact a.stmts b.stmts v.stmts.sorted z.stmts.sorted
     (λ x. stands_is_explicit a.stmts x
-    ∙ one_answer (explicit a.stmts x.path x.tuple x.sign) (explicit b.stmts x.path x.tuple x.sign)
+    ∙ same_tests (explicit a.stmts x.path x.tuple x.sign) (explicit b.stmts x.path x.tuple x.sign)
     (explicit_too n m p.tuples q.tuples t a b h k v z rels x.path x.tuple x.sign)
     (explicit_too m n q.tuples p.tuples t b a k h z v (sym rels) x.path x.tuple x.sign)
     ∙ sym (stands_is_explicit b.stmts x)) in

@@ -12,7 +12,8 @@ use Rattle.bdb_base.specs.declared.kinds.Stmt.{Stmt}
 use Rattle.bdb_base.proofs.BaseLemmas.{length-put_in, put_counts_tuple}
 use Rattle.bdb_base.proofs.ClashLemmas.{same_tuple_turned}
 use Rattle.bdb_base.proofs.SetLemmas.{is_eq-Equal, is_eq_itself, members_make_set, put_adds_member, put_keeps_order, take_drops_member, take_keeps_order}
-use Rattle.bdb_paths.proofs.StateLemmas.{list_any_same, put_counts_worlds}
+use Rattle.bdb_base.proofs.ListLemmas.{list_any_same}
+use Rattle.bdb_paths.proofs.StateLemmas.{put_counts_worlds}
 use Rattle.bdb_update.specs.Differing.{has_told}
 use Rattle.bdb_update.proofs.MissingLemmas.{missing_behind}
 

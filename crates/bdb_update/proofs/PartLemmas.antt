@@ -6,7 +6,7 @@ use Rattle.bdb_base.specs.Bases.{Contents, is_user, without_statement}
 use Rattle.bdb_base.specs.Worlds.{explicit, IsConsistent}
 use Rattle.bdb_base.specs.declared.kinds.Stmt.{Stmt}
 use Rattle.bdb_base.specs.declared.kinds.Value.{Value}
-use Rattle.bdb_base.proofs.WorldLemmas.{valid_is_consistent}
+use Rattle.bdb_base.proofs.WorldLemmas.{valid_is_consistent, stands_is_explicit}
 use Rattle.bdb_keep.specs.Seen.{Seen}
 use Rattle.bdb_keep.specs.Tables.{Tables}
 use Rattle.bdb_key.specs.Grammar.{IsNum}
@@ -36,7 +36,7 @@ use Rattle.bdb_tables.specs.Stored.{SameBut, Stores}
 use Rattle.bdb_update.specs.Tallies.{HasRowCount}
 use Rattle.bdb_update.proofs.DifferLemmas.{drop_differs_at}
 use Rattle.bdb_update.proofs.GroupLemmas.{group_unsettled, settled_group_stores}
-use Rattle.bdb_tables.proofs.SignLemmas.{one_sign, stands_is_explicit}
+use Rattle.bdb_tables.proofs.SignLemmas.{one_sign}
 use Rattle.bdb_update.proofs.PartRowLemmas.{one_row_less}
 use Rattle.bdb_update.proofs.PartWorldLemmas.{consistent_before}
 use Rattle.bdb_tables.proofs.SameLemmas.{change_same, same_then}

@@ -4,20 +4,21 @@ use Rattle.std.specs.List.{AllByRecursion}
 use Rattle.std.specs.Option.{option_map}
 use Rattle.std.specs.Ordering.{eq_by_cmp, is_eq}
 use Rattle.std.specs.FinMap as tables
-use Rattle.std.proofs.lemmas.Bool.{cases_Bool, and_parts, and_from, false≢true, false_from_ne_true, or_left, or_right, or_cases, cond-true, cond-false, eqb-true, not-true, not_from_false}
+use Rattle.std.proofs.lemmas.Bool.{cases_Bool, and_parts, false≢true, false_from_ne_true, or_left, or_right, or_cases, cond-true, cond-false, eqb-true, not-true, not-false}
 use Rattle.bdb_base.specs.Bases.{are_distinct}
 use Rattle.bdb_base.specs.Same.{same_text}
 use Rattle.bdb_base.specs.SameLemmas.{same_text-Decides}
 use Rattle.bdb_base.proofs.ListLemmas.{filter_kept_one, filter_dropped_one}
+use Rattle.bdb_base.proofs.UserLemmas.{distinct_filter}
 use Rattle.bdb_keep.specs.Seen.{Seen}
 use Rattle.bdb_keep.specs.Tables.{Tables, bytes_cmp}
+use Rattle.bdb_keep.proofs.RowsLemmas.{same_place}
 use Rattle.bdb_key.proofs.Forms.{tied}
 use Rattle.bdb_tables.specs.Codec.{place}
 use Rattle.bdb_tables.specs.InUse.{ValKey, val_codec}
 use Rattle.bdb_tables.specs.Marks.{Mark}
 use Rattle.bdb_tables.specs.Writes.{Gives, with_change}
 use Rattle.bdb_tables.proofs.DifferenceLemmas.{is_among}
-use Rattle.bdb_tables.proofs.Held.{same_place}
 use Rattle.bdb_tables.proofs.WriteLemmas.{get_after_change}
 use Rattle.bdb_val.specs.Counts.{TellsDifferences}
 use Rattle.bdb_val.specs.Others as others
@@ -40,29 +41,6 @@ passing_among p q (x ∷ xs) h e = elim (or_cases (same_text q x) (is_among q xs
   ]
 ]
 
-among_passing : (p : List ℕ → Bool) (q : List ℕ) (xs : List (List ℕ)) → is_among q (filter p xs) ≡ true → is_among q xs ≡ true
-among_passing p q [] h = h
-among_passing p q (x ∷ xs) h = elim (cases_Bool (p x)) [
-  | inl k ↦ elim (or_cases (same_text q x) (is_among q (filter p xs)) (sym (ap (is_among q) (filter_kept_one p x xs k)) ∙ h)) [
-    | inl a ↦ or_left (same_text q x) (is_among q xs) a
-    | inr a ↦ or_right (same_text q x) (is_among q xs) (among_passing p q xs a)
-  ]
-  | inr k ↦ or_right (same_text q x) (is_among q xs) (among_passing p q xs (sym (ap (is_among q) (filter_dropped_one p x xs k)) ∙ h))
-]
-
-passing_once : (p : List ℕ → Bool) (xs : List (List ℕ)) → are_distinct xs ≡ true → are_distinct (filter p xs) ≡ true
-passing_once p [] h = h
-passing_once p (x ∷ xs) h =
-    let k = and_parts (not (is_among x xs)) (are_distinct xs) h in
-    elim (cases_Bool (p x)) [
-      | inl e ↦
-          ap are_distinct (filter_kept_one p x xs e)
-          ∙ and_from (not (is_among x (filter p xs))) (are_distinct (filter p xs))
-          (not_from_false (is_among x (filter p xs)) (false_from_ne_true (is_among x (filter p xs)) (λ a. false≢true (sym (not-true (is_among x xs) k.0) ∙ among_passing p x xs a))))
-          (passing_once p xs k.1)
-      | inr e ↦ ap are_distinct (filter_dropped_one p x xs e) ∙ passing_once p xs k.1
-    ]
-
 passing_each : (P Q : List ℕ → Type 0) (p : List ℕ → Bool) → ((x : List ℕ) → P x → p x ≡ true → Q x) → (xs : List (List ℕ)) → AllByRecursion P xs → AllByRecursion Q (filter p xs)
 passing_each P Q p h [] a = tt
 passing_each P Q p h (x ∷ xs) a = elim (cases_Bool (p x)) [
@@ -76,7 +54,7 @@ some_rows : (t u : Tables) (n : ℕ) (test : List ℕ → Bool) (c : HasRowCount
 some_rows t u n test c stays goes old = record {
   places = filter test c.places;
   are = record {
-    once = passing_once test c.places c.are.once;
+    once = distinct_filter test c.places c.are.once;
     each = passing_each (λ q. vals_at t q ≢ nothing_at q) (λ q. vals_at u q ≢ nothing_at q) test (λ q a e. stays q a e) c.places c.are.each;
     only = λ q out. elim (cases_Bool (test q)) [
       | inr e ↦ goes q e
@@ -152,10 +130,6 @@ one_row_less t k n c there =
     stays q e = vals_alike q (after q ∙ cond-false (eq_by_cmp bytes_cmp q (place val_codec k)) None (tables.get t q)
         (false_from_ne_true (eq_by_cmp bytes_cmp q (place val_codec k)) (λ c. false≢true (sym (not-true (same_text (place val_codec k) q) e) ∙ (same_text-Decides (place val_codec k) q).1 (sym (same_place q (place val_codec k) c))))))
 
-    not_false : (b : Bool) → not b ≡ false → b ≡ true
-    not_false true e = refl
-    not_false false e = absurd (false≢true (sym e))
-
     gone_at : (q : List ℕ) → q ≡ place val_codec k → tables.get (with_change val_codec t (k, None)) q ≡ None
     gone_at q e = after q ∙ cond-true (eq_by_cmp bytes_cmp q (place val_codec k)) None (tables.get t q) (ap is_eq (tied q (place val_codec k) e))
 
@@ -164,7 +138,7 @@ one_row_less t k n c there =
     none_there (n ∷ j) e = ap (λ o. cond (nat_eq n 11) o None) e ∙ none_either (nat_eq n 11)
 
     goes : (q : List ℕ) → not (same_text (place val_codec k) q) ≡ false → vals_at (with_change val_codec t (k, None)) q ≡ None
-    goes q e = none_there q (gone_at q (sym ((same_text-Decides (place val_codec k) q).0 (not_false (same_text (place val_codec k) q) e))))
+    goes q e = none_there q (gone_at q (sym ((same_text-Decides (place val_codec k) q).0 (not-false (same_text (place val_codec k) q) e))))
 
     old : (q : List ℕ) → vals_at t q ≡ None → vals_at (with_change val_codec t (k, None)) q ≡ None
     old q e = elim (cases_Bool (same_text (place val_codec k) q)) [

@@ -13,7 +13,10 @@ use Rattle.bdb_base.specs.Worlds.{explicit, IsConsistent}
 use Rattle.bdb_base.specs.declared.kinds.Sign.{Sign}
 use Rattle.bdb_base.specs.declared.kinds.Stmt.{Stmt}
 use Rattle.bdb_base.specs.declared.tuple.Tuple.{Tuple}
-use Rattle.bdb_base.proofs.WorldLemmas.{explicit_tuple, is_prefix_itself, valid_is_consistent}
+use Rattle.bdb_base.proofs.WorldLemmas.{explicit_tuple, is_prefix_itself, valid_is_consistent, stands_is_explicit}
+use Rattle.bdb_base.proofs.OptionLemmas.{some_of}
+use Rattle.bdb_base.proofs.SegmentLemmas.{take_is_prefix, prefix_is_take, length-prefix}
+use Rattle.bdb_base.proofs.BoolLemmas.{and_false, and_true}
 use Rattle.bdb_keep.specs.Tables.{Tables}
 use Rattle.bdb_key.specs.Grammar.{IsNum}
 use Rattle.bdb_paths.proofs.StateLemmas.{states_have_prefixes}
@@ -28,13 +31,13 @@ use Rattle.bdb_tables.proofs.WriteLemmas.{gives_same}
 use Rattle.bdb_val.specs.Reads.{HasRows, HaveTuples}
 use Rattle.bdb_val.specs.Settling.{row_key}
 use Rattle.bdb_val.specs.WorldCopies.{rows_cleared}
-use Rattle.bdb_val.proofs.HeldLemmas.{some_is, explicit_mark, held, held_names, right_row}
+use Rattle.bdb_val.proofs.HeldLemmas.{explicit_mark, held, held_names, right_row}
 use Rattle.bdb_val.proofs.ReadLemmas.{key_fits}
 use Rattle.bdb_worlds.specs.Growth.{SameOutside}
 use Rattle.bdb_worlds.specs.Holding.{Worlds, HoldSome}
-use Rattle.bdb_worlds.specs.Shrinking.{without_prefixes, IsDead, AreDead, Stays, as_root, as_needed, HasShrunk, DropsStates}
+use Rattle.bdb_worlds.specs.Shrinking.{without_prefixes, IsDead, AreDead, StaysState, as_root, as_needed, HasShrunk, DropsStates}
 use Rattle.bdb_worlds.specs.Staying.{IsNeeded, by_row, by_longer}
-use Rattle.bdb_worlds.proofs.GrowLemmas.{take_split}
+use Rattle.bdb_worlds.proofs.GrowLemmas.{take_split, length-take-is}
 use Rattle.bdb_worlds.proofs.ReadLemmas.{found_is}
 use Rattle.bdb_update.proofs.KeyLemmas.{lengths_fit}
 use Rattle.bdb_update.specs.Calls.{without_one}
@@ -46,41 +49,17 @@ use Rattle.bdb_update.proofs.ArriveLemmas.{in_worlds, worlds_then_rows}
 use Rattle.bdb_update.proofs.ComeLemmas.{rows_same}
 use Rattle.bdb_update.proofs.GrammarLemmas.{over_in_grammar}
 use Rattle.bdb_update.proofs.OneStored.{explicit_state}
-use Rattle.bdb_tables.proofs.SignLemmas.{one_sign, sign_is_explicit, stands_is_explicit}
+use Rattle.bdb_tables.proofs.SignLemmas.{one_sign, sign_is_explicit}
 use Rattle.bdb_update.proofs.PartCountLemmas.{worlds_less}
 use Rattle.bdb_update.proofs.ReachLemmas.{other_worlds_store, world_goes_with_rows}
 use Rattle.bdb_tables.proofs.SameLemmas.{gives_still, states_still}
 use Rattle.bdb_update.proofs.StageLemmas.{belongs_parts, over_has_tuples, tuples_still}
 use Rattle.bdb_update.proofs.WithinLemmas.{drop_is_within, drop_leaves_states}
 use Rattle.bdb_tables.proofs.SignLemmas.{found_before}
+use Rattle.bdb_names.proofs.Ends.{length_more}
+use Rattle.bdb_update.proofs.MarkLemmas.{explicit_is}
 
 -- ---- paths
-
-take_front : (w p : List ℕ) → is_prefix w p ≡ true → w ≡ take (length w) p
-take_front [] p h = refl
-take_front (i ∷ w) [] h = absurd (false≢true h)
-take_front (i ∷ w) (j ∷ p) h =
-    let k = and_parts (nat_eq i j) (is_prefix w p) h in
-    ap (λ n. n ∷ w) (eqb-true i j k.0) ∙ ap (λ (z : List ℕ). j ∷ z) (take_front w p k.1)
-
-front_short : (w p : List ℕ) → is_prefix w p ≡ true → length w ≤ length p
-front_short [] p h = omega arith
-front_short (i ∷ w) [] h = absurd (false≢true h)
-front_short (i ∷ w) (j ∷ p) h = let k = front_short w p (and_parts (nat_eq i j) (is_prefix w p) h).1 in omega arith
-
-take_is_front : (w : List ℕ) (k : ℕ) → is_prefix (take k w) w ≡ true
-take_is_front w zero = refl
-take_is_front [] (suc k) = refl
-take_is_front (x ∷ w) (suc k) = and_from (nat_eq x x) (is_prefix (take k w) w) (eq-eqb x x refl) (take_is_front w k)
-
-take_long : (w : List ℕ) (k : ℕ) → k ≤ length w → length (take k w) ≡ k
-take_long w zero l = refl
-take_long [] (suc k) l = absurd (omega arith)
-take_long (x ∷ w) (suc k) l = ap suc (take_long w k (omega arith))
-
-length_push : (w : List ℕ) (i : ℕ) → length (w ++ i ∷ []) ≡ suc (length w)
-length_push [] i = refl
-length_push (x ∷ w) i = ap suc (length_push w i)
 
 -- a prefix of a path is all of it, or one of its prefixes is a user longer
 front_cases : (w p : List ℕ) → is_prefix w p ≡ true → (p ≡ w) ⊎ ((i : ℕ) × (is_prefix (w ++ i ∷ []) p ≡ true))
@@ -137,8 +116,8 @@ state_cases stmts (j ∷ w) some h = begun_cases stmts (j ∷ w) h
 -- a prefix of a state is one
 state_front : (stmts : List Stmt) (w p : List ℕ) → is_prefix w p ≡ true → is_state stmts p ≡ true → is_state stmts w ≡ true
 state_front stmts w p h e =
-    let r = take_split p (length w) (length p) (front_short w p h) in
-    states_have_prefixes stmts w r.0 (ap (is_state stmts) (ap (λ v. v ++ r.0) (take_front w p h) ∙ sym r.1 ∙ whole p) ∙ e)
+    let r = take_split p (length w) (length p) (length-prefix w p h) in
+    states_have_prefixes stmts w r.0 (ap (is_state stmts) (ap (λ v. v ++ r.0) (prefix_is_take w p h) ∙ sym r.1 ∙ whole p) ∙ e)
   where
     whole : (p : List ℕ) → take (length p) p ≡ p
     whole [] = refl
@@ -172,14 +151,6 @@ gone_rows keys stmts tuple ns path len (n ∷ gone) k =
     ∙ gone_rows keys stmts tuple (without_name ns n p) path (len - 1) gone k
 
 -- ---- marks
-
-explicit_only : (o : Option Mark) (s : Sign) → explicit_of o ≡ Some s → o ≡ Some (s, true)
-explicit_only None s e = absurd cc
-explicit_only (Some m) s e = by m.1 refl
-  where
-    by : (b : Bool) → m.1 ≡ b → Some m ≡ Some (s, true)
-    by true k = let f : Some m.0 ≡ Some s = sym (cond-true m.1 (Some m.0) None k) ∙ e in let g : m.0 ≡ s = cc in ap (λ (b : Bool). Some (m.0, b)) k ∙ ap (λ (r : Sign). Some (r, true)) g
-    by false k = let f : None ≡ Some s = sym (cond-false m.1 (Some m.0) None k) ∙ e in absurd cc
 
 one_path : (v w : List ℕ) (o : Option (List ℕ)) → o ≡ Some v → o ≡ Some w → v ≡ w
 one_path v w o e f = cc
@@ -236,12 +207,12 @@ module _ (t : Tables) (b : Contents) (x : Stmt) (h : HasParted t b x) (may : May
   statement_has_row : (n : ℕ) (w : List ℕ) → path_of ns n ≡ Some w → SomeExplicit less w → HasExplicitRow t n
   statement_has_row n w p s =
       let told : has_told b.stmts s.tuple ≡ true = (drop_is_within b.stmts x).tuples s.tuple (explicit_tuple less w s.tuple s.sign s.there) in
-      let i = some_is (h.tuples.number s.tuple) (h.stored.tuples.stated s.tuple ∙ told) in
+      let i = some_of (h.tuples.number s.tuple) (h.stored.tuples.stated s.tuple ∙ told) in
       let named = h.stored.tuples.numbered s.tuple i.0 i.1 in
       let size : IsNum n = names.sized w n (names.named n w p) in
       let fits : IsValKey (row_key (keys_of b) n i.0 s.tuple) = key_fits (keys_of b) h.tuples.tuple _ t rows_had n i.0 s.tuple size named in
       let mark : mark_of (keys_of b) less w s.tuple ≡ Some (s.sign, true) =
-      explicit_only (mark_of (keys_of b) less w s.tuple) s.sign (explicit_mark (keys_of b) less w s.tuple less_consistent ∙ one_sign (keys_of b) less w s.tuple s.sign less_consistent s.there) in
+      explicit_is (mark_of (keys_of b) less w s.tuple) s.sign (explicit_mark (keys_of b) less w s.tuple less_consistent ∙ one_sign (keys_of b) less w s.tuple s.sign less_consistent s.there) in
       record {
         key = row_key (keys_of b) n i.0 s.tuple;
         sign = s.sign;
@@ -274,8 +245,8 @@ module _ (t : Tables) (b : Contents) (x : Stmt) (h : HasParted t b x) (may : May
     where
       longer : (i : ℕ) → is_state less (take len x.path ++ i ∷ []) ≡ true → ⊥
       longer i e =
-          let long = length_push (take len x.path) i in
-          let size = take_long x.path len l in
+          let long = length_more (take len x.path) i in
+          let size = length-take-is x.path len l in
           elim (cases_Bool (is_prefix (take len x.path ++ i ∷ []) x.path)) [
             | inl c ↦ false≢true (sym (done (take len x.path ++ i ∷ []) c (omega arith)) ∙ e)
             | inr c ↦ dead.needless (by_longer (record { user = i; named = still (take len x.path ++ i ∷ []) (λ d. absurd (false≢true (sym c ∙ d))) (state_named (take len x.path ++ i ∷ []) e) }))
@@ -294,8 +265,8 @@ module _ (t : Tables) (b : Contents) (x : Stmt) (h : HasParted t b x) (may : May
       still_less : (w : List ℕ) → (is_prefix w x.path ≡ true → length w ≤ len - 1) → is_named ns w ≡ true → is_named (without_name ms n (take len x.path)) w ≡ true
       still_less w short e = ap is_some (cond-false (same_path w (take len x.path)) None (ms.number w) (false_from_ne_true (same_path w (take len x.path)) (λ c.
           let same : w ≡ take len x.path = (same_path-Decides w (take len x.path)).0 c in
-          let d = short (ap (λ v. is_prefix v x.path) same ∙ take_is_front x.path len) in
-          let long : length w ≡ len = ap length same ∙ take_long x.path len l in
+          let d = short (ap (λ v. is_prefix v x.path) same ∙ take_is_prefix x.path len) in
+          let long : length w ≡ len = ap length same ∙ length-take-is x.path len l in
           omega arith)))
           ∙ still w (λ d. let s = short d in omega arith) e
 
@@ -304,7 +275,7 @@ module _ (t : Tables) (b : Contents) (x : Stmt) (h : HasParted t b x) (may : May
         | inl a ↦ done w e a
         | inr a ↦
             let long : length w ≡ len = omega arith in
-            ap (is_state less) (take_front w x.path e ∙ ap (λ k. take k x.path) long) ∙ dead_is_gone ms len n dead.0 l numbers still done
+            ap (is_state less) (prefix_is_take w x.path e ∙ ap (λ k. take k x.path) long) ∙ dead_is_gone ms len n dead.0 l numbers still done
       ]
 
   -- ---- the names that are left are those of the states
@@ -317,7 +288,7 @@ module _ (t : Tables) (b : Contents) (x : Stmt) (h : HasParted t b x) (may : May
     gone_is_none =
         let whole = s.whole in
         all_gone ns (length x.path) gone s.dead (omega arith) (omega arith) (λ w m e. e) (λ w short e. e)
-        (λ w e m. let l = front_short w x.path e in absurd (omega arith)) s.left whole
+        (λ w e m. let l = length-prefix w x.path e in absurd (omega arith)) s.left whole
 
     -- the longest prefix that stays is a state
     last_stays : is_state less (take s.left x.path) ≡ true
@@ -327,9 +298,9 @@ module _ (t : Tables) (b : Contents) (x : Stmt) (h : HasParted t b x) (may : May
         longer i e =
             let q = take s.left x.path ++ i ∷ [] in
             let k = and_parts (is_named ns q) (not (is_prefix q x.path && nat_lt s.left (length q))) (sym (s.paths q) ∙ e) in
-            let long = length_push (take s.left x.path) i in
+            let long = length_more (take s.left x.path) i in
             let whole = s.whole in
-            let size = take_long x.path s.left (omega arith) in
+            let size = length-take-is x.path s.left (omega arith) in
             let apart : is_prefix q x.path ≡ false = false_from_ne_true (is_prefix q x.path) (λ c.
             false≢true (sym (ap not (and_from (is_prefix q x.path) (nat_lt s.left (length q)) c (lt-ltb s.left (length q) (omega arith)))) ∙ k.1)) in
             states_have_prefixes less (take s.left x.path) (i ∷ []) (drop_leaves_states b.stmts x q apart ∙ sym (h.stored.worlds q) ∙ k.0)
@@ -338,7 +309,7 @@ module _ (t : Tables) (b : Contents) (x : Stmt) (h : HasParted t b x) (may : May
         needed n e (by_row r) = row_makes_state n (take s.left x.path) (names.numbered (take s.left x.path) n (number_before ns x.path (length x.path) gone (take s.left x.path) n e)) r
         needed n e (by_longer l) = longer l.user l.named
 
-        by : Stays t ms (take s.left x.path) → is_state less (take s.left x.path) ≡ true
+        by : StaysState t ms (take s.left x.path) → is_state less (take s.left x.path) ≡ true
         by (as_root e) = ap (is_state less) e
         by (as_needed n e r) = needed n e r
 
@@ -357,14 +328,6 @@ module _ (t : Tables) (b : Contents) (x : Stmt) (h : HasParted t b x) (may : May
       ]
     ]
       where
-        and_true : (a : Bool) → (a && true) ≡ a
-        and_true true = refl
-        and_true false = refl
-
-        and_false : (a : Bool) → (a && false) ≡ false
-        and_false true = refl
-        and_false false = refl
-
         front_of_front : (k : ℕ) (w p : List ℕ) → is_prefix w p ≡ true → length w ≤ k → is_prefix w (take k p) ≡ true
         front_of_front k [] p e l = refl
         front_of_front k (i ∷ w) [] e l = absurd (false≢true e)
@@ -399,7 +362,7 @@ count_worlds t u x gone drops b h may =
     let last = last_stays t b x h may u gone s in
     worlds_less b.stmts x may.valid.stmts.sorted may.there s.left (omega arith)
     (λ j l. state_front less (take j x.path) (take s.left x.path) (take_of_take j s.left x.path l) last)
-    (λ j l m. gone_is_none t b x h may u gone s (take j x.path) (take_is_front x.path j) (let z = take_long x.path j m in omega arith))
+    (λ j l m. gone_is_none t b x h may u gone s (take j x.path) (take_is_prefix x.path j) (let z = length-take-is x.path j m in omega arith))
     ∙ ap (λ n. world_count less + n) many
   where
     take_of_take : (j k : ℕ) (w : List ℕ) → j ≤ k → is_prefix (take j w) (take k w) ≡ true

@@ -1,15 +1,10 @@
 -- Names with prefixes of a path, one after the other.
-use Rattle.std.proofs.Common.{◌≡◌, ◌∙◌, ℕ, ◌+◌, ◌≤◌, false, nat_eq, cond, List, [], ◌∷◌, ◌++◌, refl, ap, sym, subst, inl, inr, suc, arith, length, take, Option, Some, None}
+use Rattle.std.proofs.Common.{◌≡◌, ◌∙◌, ℕ, ◌+◌, ◌≤◌, false, nat_eq, cond, List, [], ◌∷◌, ◌++◌, refl, ap, sym, subst, inl, inr, suc, arith, length, take, Some, None}
 use Rattle.std.proofs.lemmas.Bool.{cases_Bool, cond-true, cond-false, false_from_ne_true, eqb-true, eq-eqb}
+use Rattle.bdb_base.proofs.OptionLemmas.{none_and_some, one_there}
 use Rattle.bdb_tables.specs.Names.{Names, AreNames, path_of, number_of, with_name}
 use Rattle.bdb_worlds.specs.Growth.{with_prefixes, AreLeast}
 use Rattle.bdb_worlds.proofs.GrowLemmas.{length-take-is}
-
-some_none : {X : Type 0} (x : X) (o : Option X) → o ≡ None → o ≡ Some x → ⊥
-some_none x o a b = cc
-
-same_some : {X : Type 0} (x y : X) (o : Option X) → o ≡ Some x → o ≡ Some y → x ≡ y
-same_some x y o a b = cc
 
 -- more prefixes come behind others
 pub prefixes_split : (ns : Names) (path : List ℕ) (len : ℕ) (xs ys : List ℕ) → with_prefixes ns path len (xs ++ ys) ≡ with_prefixes (with_prefixes ns path len xs) path (len + length xs) ys
@@ -38,7 +33,7 @@ still_named ns path len (n ∷ new) m v l e =
     still_named (with_name ns n (take (suc len) path)) path (suc len) new m v l.1 (cond-false (nat_eq m n) (Some (take (suc len) path)) (path_of ns m) other ∙ e)
   where
     other : nat_eq m n ≡ false
-    other = false_from_ne_true (nat_eq m n) (λ t. some_none v (path_of ns m) (ap (path_of ns) (eqb-true m n t) ∙ l.0.free) e)
+    other = false_from_ne_true (nat_eq m n) (λ t. none_and_some v (path_of ns m) (ap (path_of ns) (eqb-true m n t) ∙ l.0.free) e)
 
 -- a path no longer than those before had its number before
 pub named_before : (ns : Names) (path : List ℕ) (len : ℕ) (new : List ℕ) (m : ℕ) (v : List ℕ) → len + length new ≤ length path → length v ≤ len
@@ -50,7 +45,7 @@ named_before ns path len (n ∷ new) m v w s e =
     let f : cond (nat_eq m n) (Some p) (path_of ns m) ≡ Some v = named_before (with_name ns n p) path (suc len) new m v (omega arith) (omega arith) e in
     elim (cases_Bool (nat_eq m n)) [
       | inl t ↦
-          let same = ap length (same_some p v (Some p) refl (sym (cond-true (nat_eq m n) (Some p) (path_of ns m) t) ∙ f)) in
+          let same = ap length (one_there p v (Some p) refl (sym (cond-true (nat_eq m n) (Some p) (path_of ns m) t) ∙ f)) in
           absurd (omega arith)
       | inr o ↦ sym (cond-false (nat_eq m n) (Some p) (path_of ns m) o) ∙ f
     ]
@@ -100,9 +95,5 @@ module _ (ns : Names) (path : List ℕ) (len : ℕ) (xs ys : List ℕ) (n : ℕ)
   next_is_new names m e =
       let f : path_of front m ≡ Some next_path = still_named ns path len xs m next_path (least_front ns path len xs (n ∷ ys) least) e in
       let g : path_of every m ≡ Some next_path = ap (λ (x : Names). path_of x m) every_is ∙ still_named front path (len + length xs) (n ∷ ys) m next_path behind f in
-      let same : m ≡ n = same_some m n (number_of every next_path) (names.named m next_path g) (names.named n next_path next_named) in
-      some_none next_path (path_of front n) front_free (ap (path_of front) (sym same) ∙ f)
-
--- one prefix more at the end
-pub prefixes_push : (ns : Names) (path : List ℕ) (len : ℕ) (xs : List ℕ) (n : ℕ) → with_prefixes ns path len (xs ++ n ∷ []) ≡ with_name (with_prefixes ns path len xs) n (take (suc (len + length xs)) path)
-prefixes_push ns path len xs n = prefixes_split ns path len xs (n ∷ [])
+      let same : m ≡ n = one_there m n (number_of every next_path) (names.named m next_path g) (names.named n next_path next_named) in
+      none_and_some next_path (path_of front n) front_free (ap (path_of front) (sym same) ∙ f)

@@ -15,26 +15,16 @@ use Rattle.bdb_base.specs.Same.{same_path}
 use Rattle.bdb_base.specs.SortedSet.{ascending}
 use Rattle.bdb_base.specs.Worlds.{contradicted}
 use Rattle.bdb_base.proofs.BaseLemmas.{length-put_in}
-use Rattle.bdb_base.proofs.ListLemmas.{filter_kept_one, filter_dropped_one}
-use Rattle.bdb_base.proofs.SetLemmas.{list_any-put_in, put_keeps_order, filter_keeps_order, members_make_set, take_drops_member, take_keeps_order, put_adds_member, is_eq_itself, is_eq_turned, is_eq-Equal}
-use Rattle.bdb_paths.proofs.StateLemmas.{list_any_same}
+use Rattle.bdb_base.proofs.ListLemmas.{filter_kept_one, filter_dropped_one, list_any_same, or_swap, or_false}
+use Rattle.bdb_base.proofs.SetLemmas.{list_any-put_in, put_keeps_order, filter_keeps_order, members_make_set, take_drops_member, take_keeps_order, put_adds_member, is_eq_itself, is_eq_turned}
+use Rattle.bdb_base.proofs.FindLemmas.{list_any-filter}
+use Rattle.bdb_base.proofs.UpdateLemmas.{without_keeps_order}
 use Rattle.bdb_update.specs.Calls.{are_apart}
 use Rattle.bdb_update.specs.Reached.{at_path, said_at, said_of}
-use Rattle.bdb_val.specs.declared.stored.Stored.{Stored}
+use Rattle.bdb_val.specs.declared.stored.StoredRow.{StoredRow}
+use Rattle.bdb_update.proofs.PartCountLemmas.{put_back}
 
 -- ---- lists
-
-both_ways : (a b : Bool) → (a ≡ true → b ≡ true) → (b ≡ true → a ≡ true) → a ≡ b
-both_ways true b f g = sym (f refl)
-both_ways false true f g = g refl
-both_ways false false f g = refl
-
-pub any-filter : {X : Type 0} (p q : X → Bool) (xs : List X) → list_any p (filter q xs) ≡ list_any (λ x. q x && p x) xs
-any-filter p q [] = refl
-any-filter p q (x ∷ xs) = elim (cases_Bool (q x)) [
-  | inl e ↦ ap (list_any p) (filter_kept_one q x xs e) ∙ ap (λ b. p x || b) (any-filter p q xs) ∙ sym (ap (λ b. (b && p x) || list_any (λ y. q y && p y) xs) e)
-  | inr e ↦ ap (list_any p) (filter_dropped_one q x xs e) ∙ any-filter p q xs ∙ sym (ap (λ b. (b && p x) || list_any (λ y. q y && p y) xs) e)
-]
 
 filters_swap : {X : Type 0} (p q : X → Bool) (xs : List X) → filter p (filter q xs) ≡ filter q (filter p xs)
 filters_swap p q [] = refl
@@ -63,10 +53,10 @@ put_at_path : (p : Stmt → Bool) (xs : List Stmt) (x : Stmt) → ascending stat
 put_at_path p xs x s e = members_make_set statement_exact (filter p (with_statement xs x)) (with_statement (filter p xs) x)
     (filter_keeps_order statement_exact p (with_statement xs x) (put_keeps_order statement_exact xs x s))
     (put_keeps_order statement_exact (filter p xs) x (filter_keeps_order statement_exact p xs s))
-    (λ z. any-filter (λ y. is_eq (statement_cmp y z)) p (with_statement xs x)
+    (λ z. list_any-filter (λ y. is_eq (statement_cmp y z)) p (with_statement xs x)
     ∙ list_any-put_in statement_exact (λ y. p y && is_eq (statement_cmp y z)) xs x
     ∙ ap (λ b. (b && is_eq (statement_cmp x z)) || list_any (λ y. p y && is_eq (statement_cmp y z)) xs) e
-    ∙ sym (put_adds_member statement_exact (filter p xs) x z ∙ ap (λ b. is_eq (statement_cmp x z) || b) (any-filter (λ y. is_eq (statement_cmp y z)) p xs)))
+    ∙ sym (put_adds_member statement_exact (filter p xs) x z ∙ ap (λ b. is_eq (statement_cmp x z) || b) (list_any-filter (λ y. is_eq (statement_cmp y z)) p xs)))
 
 with_at_path : (p : Stmt → Bool) (xs come : List Stmt) → ascending statement_cmp xs ≡ true → list_all p come ≡ true → filter p (with_statements xs come) ≡ with_statements (filter p xs) come
 with_at_path p xs [] s e = refl
@@ -77,10 +67,6 @@ with_at_path p xs (x ∷ come) s e =
 without_at_path : (p : Stmt → Bool) (xs gone : List Stmt) → filter p (without_statements xs gone) ≡ without_statements (filter p xs) gone
 without_at_path p xs [] = refl
 without_at_path p xs (x ∷ gone) = without_at_path p (without_statement xs x) gone ∙ ap (λ ys. without_statements ys gone) (filters_swap p (λ y. not (is_eq (statement_cmp y x))) xs)
-
-pub without_keeps_order : (xs gone : List Stmt) → ascending statement_cmp xs ≡ true → ascending statement_cmp (without_statements xs gone) ≡ true
-without_keeps_order xs [] s = s
-without_keeps_order xs (x ∷ gone) s = without_keeps_order (without_statement xs x) gone (take_keeps_order statement_exact xs x s)
 
 -- what stands at a path after a change there
 pub reached_at : (w : List ℕ) (stmts gone come : List Stmt) → ascending statement_cmp stmts ≡ true → list_all (λ x. same_path x.path w) come ≡ true
@@ -102,7 +88,7 @@ find_at_path p f g h (x ∷ xs) = elim (cases_Bool (p x)) [
 
 pub first_at_path : (keys : ℕ → ℕ) (w : List ℕ) (xs : List Stmt) → first_clashing keys (at_path w xs) w ≡ first_clashing keys xs w
 first_at_path keys w xs = find_at_path (λ x. same_path x.path w) (λ x. contradicted keys (at_path w xs) w x.tuple x.sign) (λ x. contradicted keys xs w x.tuple x.sign)
-    (λ x. any-filter (λ y. same_path y.path w && clash keys x.tuple x.sign y.tuple y.sign) (λ y. same_path y.path w) xs
+    (λ x. list_any-filter (λ y. same_path y.path w && clash keys x.tuple x.sign y.tuple y.sign) (λ y. same_path y.path w) xs
     ∙ list_any_same (λ y. same_path y.path w && (same_path y.path w && clash keys x.tuple x.sign y.tuple y.sign)) (λ y. same_path y.path w && clash keys x.tuple x.sign y.tuple y.sign)
     (λ y. and_again (same_path y.path w) (clash keys x.tuple x.sign y.tuple y.sign)) xs)
     xs
@@ -114,22 +100,12 @@ with_all xs [] zs = refl
 with_all xs (y ∷ ys) zs = with_all (with_statement xs y) ys zs
 
 -- one row more
-pub said_more : (w : List ℕ) (rows : List Stored) (r : Stored) → with_statements [] (said_at w (rows ++ r ∷ [])) ≡ with_statements (with_statements [] (said_at w rows)) (said_of w r)
+pub said_more : (w : List ℕ) (rows : List StoredRow) (r : StoredRow) → with_statements [] (said_at w (rows ++ r ∷ [])) ≡ with_statements (with_statements [] (said_at w rows)) (said_of w r)
 said_more w rows r =
     ap (with_statements []) (flat_map-append (said_of w) rows (r ∷ []) ∙ ap (λ xs. said_at w rows ++ xs) (append-nil (said_of w r)))
     ∙ with_all [] (said_at w rows) (said_of w r)
 
 -- ---- statements that go
-
--- with it again, a statement that stood has not gone
-back_again : (xs : List Stmt) (x : Stmt) → ascending statement_cmp xs ≡ true → stands xs x ≡ true → with_statement (without_statement xs x) x ≡ xs
-back_again xs x s e = members_make_set statement_exact (with_statement (without_statement xs x) x) xs
-    (put_keeps_order statement_exact (without_statement xs x) x (take_keeps_order statement_exact xs x s)) s
-    (λ z. put_adds_member statement_exact (without_statement xs x) x z ∙ ap (λ b. is_eq (statement_cmp x z) || b) (take_drops_member statement_exact xs x z) ∙ by z (is_eq (statement_cmp x z)) refl)
-  where
-    by : (z : Stmt) (b : Bool) → is_eq (statement_cmp x z) ≡ b → (is_eq (statement_cmp x z) || (not (is_eq (statement_cmp x z)) && stands xs z)) ≡ stands xs z
-    by z true h = ap (λ b. b || (not b && stands xs z)) h ∙ sym (ap (stands xs) (sym (statement_exact.exact x z (is_eq-Equal (statement_cmp x z) h))) ∙ e)
-    by z false h = ap (λ b. b || (not b && stands xs z)) h
 
 gone_away : (xs : List Stmt) (x : Stmt) → stands (without_statement xs x) x ≡ false
 gone_away xs x = take_drops_member statement_exact xs x x ∙ ap (λ b. not b && stands xs x) (is_eq_itself statement_exact x)
@@ -162,21 +138,12 @@ goes_first xs x gone e a =
 -- what is found among all is found among those left or those gone
 pub any_left : (p : Stmt → Bool) (xs gone : List Stmt) → ascending statement_cmp xs ≡ true → list_all (stands xs) gone ≡ true → are_apart gone ≡ true
     → list_any p xs ≡ (list_any p (without_statements xs gone) || list_any p gone)
-any_left p xs [] s e a = sym (or_none (list_any p xs))
-  where
-    or_none : (b : Bool) → (b || false) ≡ b
-    or_none true = refl
-    or_none false = refl
+any_left p xs [] s e a = sym (or_false (list_any p xs))
 any_left p xs (x ∷ gone) s e a =
     let k = goes_first xs x gone e a in
-    sym (ap (list_any p) (back_again xs x s k.here)) ∙ list_any-put_in statement_exact p (without_statement xs x) x
+    sym (ap (list_any p) (put_back xs x s k.here)) ∙ list_any-put_in statement_exact p (without_statement xs x) x
     ∙ ap (λ b. p x || b) (any_left p (without_statement xs x) gone (take_keeps_order statement_exact xs x s) k.later k.apart)
-    ∙ moved (p x) (list_any p (without_statements (without_statement xs x) gone)) (list_any p gone)
-  where
-    moved : (a b c : Bool) → (a || (b || c)) ≡ (b || (a || c))
-    moved true true c = refl
-    moved true false c = refl
-    moved false b c = refl
+    ∙ or_swap (p x) (list_any p (without_statements (without_statement xs x) gone)) (list_any p gone)
 
 pub length_left : (xs gone : List Stmt) → ascending statement_cmp xs ≡ true → list_all (stands xs) gone ≡ true → are_apart gone ≡ true → length (without_statements xs gone) + length gone ≡ length xs
 length_left xs [] s e a = omega arith
@@ -185,7 +152,7 @@ length_left xs (x ∷ gone) s e a =
     let left = without_statement xs x in
     let s2 = take_keeps_order statement_exact xs x s in
     let ih = length_left left gone s2 k.later k.apart in
-    let one : length xs ≡ 1 + length left = ap length (sym (back_again xs x s k.here)) ∙ length-put_in statement_exact left x s2 ∙ ap (λ b. cond b 0 1 + length left) (gone_away xs x) in
+    let one : length xs ≡ 1 + length left = ap length (sym (put_back xs x s k.here)) ∙ length-put_in statement_exact left x s2 ∙ ap (λ b. cond b 0 1 + length left) (gone_away xs x) in
     omega arith
 
 pub length_with : (xs come : List Stmt) → ascending statement_cmp xs ≡ true → length (with_statements xs come) ≤ length xs + length come

@@ -1,5 +1,5 @@
 -- The rows of a tuple's number that are marked are those of the statements that have the tuple.
-use Rattle.std.proofs.Common.{◌≡◌, ◌∙◌, ℕ, Bool, true, ◌&&◌, nat_lt, List, [], ◌∷◌, Option, Some, None, MatchOption, inl, inr, is_some, refl, ap, sym, subst}
+use Rattle.std.proofs.Common.{◌≡◌, ◌∙◌, ℕ, Bool, true, ◌&&◌, nat_lt, List, [], ◌∷◌, Option, Some, MatchOption, inl, inr, is_some, refl, ap, sym, subst}
 use Rattle.std.specs.Option.{option_map}
 use Rattle.std.proofs.lemmas.Bool.{cases_lt, false≢true, false_from_ne_true, and_from, or_cases, or_left, or_right, lt-ltb, le-ltb}
 use Rattle.bdb_base.specs.Bases.{Contents}
@@ -9,22 +9,22 @@ use Rattle.bdb_base.specs.Worlds.{explicit, IsConsistent}
 use Rattle.bdb_base.specs.declared.kinds.Sign.{Sign}
 use Rattle.bdb_base.specs.declared.kinds.Stmt.{Stmt}
 use Rattle.bdb_base.specs.declared.tuple.Tuple.{Tuple}
-use Rattle.bdb_base.proofs.WorldLemmas.{explicit_tuple}
+use Rattle.bdb_base.proofs.WorldLemmas.{explicit_tuple, explicit_is_stated}
+use Rattle.bdb_base.proofs.OptionLemmas.{some_of}
 use Rattle.bdb_keep.specs.Marked.{IsMarkedAt, IsMarkedCount}
 use Rattle.bdb_keep.specs.Tables.{Tables}
 use Rattle.bdb_keep.specs.declared.keeper.KeyEnd.TheVariants.{Last}
 use Rattle.bdb_key.specs.Grammar.{IsNum}
 use Rattle.bdb_key.specs.Rows.{IsTupleRow, mark_bytes}
 use Rattle.bdb_tables.specs.InUse.{ValKey, IsValKey, val_bytes}
-use Rattle.bdb_tables.specs.InUseLaws.{mark_rows_are_one}
 use Rattle.bdb_tables.specs.Marks.{Mark, mark_of}
 use Rattle.bdb_tables.specs.Names.{Names, path_of, number_of}
 use Rattle.bdb_tables.specs.Rows.{Tuples, row_for}
 use Rattle.bdb_tables.specs.Stored.{StoredOver}
 use Rattle.bdb_tables.proofs.ExplicitLemmas.{IsExplicitAt, marked_is_explicit, explicit_is_marked, none_there, some_marked}
-use Rattle.bdb_tables.proofs.Held.{some_same, none_some}
+use Rattle.bdb_tables.proofs.MarkLemmas.{mark_is}
 use Rattle.bdb_val.specs.Settling.{row_key}
-use Rattle.bdb_val.proofs.HeldLemmas.{some_is, held_names, right_row, explicit_is_stated}
+use Rattle.bdb_val.proofs.HeldLemmas.{held_names, right_row}
 use Rattle.bdb_val.proofs.ReadLemmas.{key_of_fits}
 use Rattle.bdb_val.proofs.WorldLemmas.{mark_tells, mark_has}
 use Rattle.bdb_update.specs.Differing.{AreWithin, has_told}
@@ -32,10 +32,6 @@ use Rattle.bdb_update.specs.Keys.{keys_of}
 use Rattle.bdb_update.specs.Reads.{TellsTold}
 use Rattle.bdb_update.proofs.KeyLemmas.{lengths_fit}
 use Rattle.bdb_update.proofs.OneStored.{explicit_state}
-
-one_mark : (o : Option Mark) (m : Mark) → option_map mark_bytes o ≡ Some (mark_bytes m) → o ≡ Some m
-one_mark None m e = absurd (none_some (mark_bytes m) e)
-one_mark (Some k) m e = ap Some (mark_rows_are_one k m tt tt (some_same (mark_bytes k) (mark_bytes m) e))
 
 -- a tuple that is told is explicit at some path
 told_explicit : (stmts : List Stmt) (u : Tuple) → has_told stmts u ≡ true → (w : List ℕ) × (g : Sign) × (explicit stmts w u g ≡ true)
@@ -82,9 +78,9 @@ module _ (reached told : List Stmt) (ns : Names) (ts : Tuples) (t : Tables) (b :
   marked_told bytes m =
       let x : IsExplicitAt t Last tid bytes = marked_is_explicit t Last tid bytes h.rows.fits size m in
       let k = x.key in
-      let row : held k ≡ Some (x.sign, true) = one_mark (held k) (x.sign, true) (sym (h.rows.rows k x.fits) ∙ x.row.found) in
+      let row : held k ≡ Some (x.sign, true) = mark_is (held k) (x.sign, true) (sym (h.rows.rows k x.fits) ∙ x.row.found) in
       let names = held_names (keys_of b) b.stmts told ns ts t h.tuples k (ap is_some row) in
-      let w = some_is (path_of ns k.0) names.0 in
+      let w = some_of (path_of ns k.0) names.0 in
       let v = names.1.0 in
       let here : ts.tuple k.3 ≡ Some v = names.1.1 in
       let same : v ≡ u = one_tuple v k.3 x.number here in
@@ -110,7 +106,7 @@ module _ (reached told : List Stmt) (ns : Names) (ts : Tuples) (t : Tables) (b :
   module _ (within : AreWithin b.stmts reached told) (c : IsConsistent (keys_of b) b.stmts) where
     pub told_marked : (w : List ℕ) (g : Sign) → explicit b.stmts w u g ≡ true → HasMarkedRow w
     told_marked w g e =
-        let named = some_is (number_of ns w) (h.worlds w ∙ within.states w (explicit_state b.stmts w u g e)) in
+        let named = some_of (number_of ns w) (h.worlds w ∙ within.states w (explicit_state b.stmts w u g e)) in
         let wid = named.0 in
         let path = h.states.names.numbered w wid named.1 in
         let num = h.states.names.sized w wid named.1 in

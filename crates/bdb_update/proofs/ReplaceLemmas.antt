@@ -1,5 +1,5 @@
 -- Statements go, and others come, one after the other.
-use Rattle.std.proofs.Common.{◌≡◌, ◌∙◌, ℕ, ◌+◌, ◌≤◌, ◌<◌, Bool, true, false, ◌||◌, nat_lt, List, [], ◌∷◌, ◌++◌, Some, None, Ok, Err, refl, ap, sym, subst, inl, inr, arith, length}
+use Rattle.std.proofs.Common.{◌≡◌, ◌∙◌, ℕ, ◌+◌, ◌≤◌, ◌<◌, Bool, true, false, nat_lt, List, [], ◌∷◌, ◌++◌, Some, None, Ok, Err, refl, ap, sym, subst, inl, inr, arith, length}
 use Rattle.std.specs.Prelude.{if◌then◌else◌}
 use Rattle.std.specs.List.{list_any, list_all}
 use Rattle.std.specs.Ordering.{is_eq}
@@ -9,19 +9,19 @@ use Rattle.bdb_base.specs.Changes.{with_statements, without_statements}
 use Rattle.bdb_base.specs.Laws.{ClashesAt}
 use Rattle.bdb_base.specs.Limits.{most_statements, most_tuples, most_worlds}
 use Rattle.bdb_base.specs.Order.{statement_cmp}
-use Rattle.bdb_base.specs.OrderLemmas.{statement_exact, is_eq_statement_cmp}
+use Rattle.bdb_base.specs.OrderLemmas.{statement_exact}
 use Rattle.bdb_base.specs.Same.{same_statement}
-use Rattle.bdb_base.specs.SortedSet.{ascending}
 use Rattle.bdb_base.specs.declared.kinds.Catalog.{Catalog}
 use Rattle.bdb_base.specs.declared.kinds.Stmt.{Stmt}
 use Rattle.bdb_base.specs.declared.kinds.What.{What}
 use Rattle.bdb_base.specs.declared.kinds.What.TheVariants.{Worlds, Tuples, Statements}
 use Rattle.bdb_base.specs.Causes.{Rose}
 use Rattle.bdb_base.proofs.BaseLemmas.{take_is_valid}
-use Rattle.bdb_base.proofs.FirstLemmas.{statement_explicit}
+use Rattle.bdb_base.proofs.FirstLemmas.{statement_explicit, same_statement_itself}
 use Rattle.bdb_base.proofs.LeastLemmas.{least_clash_is_least}
-use Rattle.bdb_base.proofs.SetLemmas.{list_any-put_in, members_make_set, put_adds_member, put_keeps_order, is_eq_itself, is_eq-Equal}
+use Rattle.bdb_base.proofs.SetLemmas.{list_any-put_in, is_eq-Equal}
 use Rattle.bdb_base.proofs.WorldLemmas.{valid_is_consistent}
+use Rattle.bdb_base.proofs.UpdateLemmas.{put_stands}
 use Rattle.bdb_canon.specs.Sizes.{counts_of}
 use Rattle.bdb_canon.specs.declared.sizes.Counts.{Counts}
 use Rattle.bdb_keep.specs.Seen.{Seen, GoesOn, IsDropped, NeverFall}
@@ -152,13 +152,10 @@ pub no_clash : (b : Contents) (x least : Stmt) → IsValid b.catalog b.stmts →
 no_clash b x least v w e =
     let at : ClashesAt (key_lengths b.catalog.rels) b.stmts x.path x.tuple x.sign least = (least_clash_is_least (key_lengths b.catalog.rels) b.stmts v.stmts.sorted x.path x.tuple x.sign least e).0 in
     let next = with_statement b.stmts x in
-    let here : list_any (same_statement x) next ≡ true = list_any-put_in statement_exact (same_statement x) b.stmts x ∙ or_left (same_statement x x) (list_any (same_statement x) b.stmts) (itself x) in
+    let here : list_any (same_statement x) next ≡ true = list_any-put_in statement_exact (same_statement x) b.stmts x ∙ or_left (same_statement x x) (list_any (same_statement x) b.stmts) (same_statement_itself x) in
     let there : list_any (same_statement least) next ≡ true = list_any-put_in statement_exact (same_statement least) b.stmts x ∙ or_right (same_statement least x) (list_any (same_statement least) b.stmts) at.0 in
     let free = valid_is_consistent b.catalog next w x.path x.tuple least.tuple x.sign least.sign (statement_explicit next x.path x here refl) (statement_explicit next x.path least there at.1) in
     false≢true (sym free ∙ at.2)
-  where
-    itself : (x : Stmt) → same_statement x x ≡ true
-    itself x = sym (is_eq_statement_cmp x x) ∙ is_eq_itself statement_exact x
 
 -- a valid base passes no limit
 pub no_limit : (b : Contents) (what : What) → IsValid b.catalog b.stmts → size_passed (counts_of b) ≡ Some what → ⊥
@@ -177,14 +174,6 @@ no_limit b what v e = by (world_count b.stmts) (tuple_count b.stmts) (length b.s
         go false true z p q r e = absurd cc
         go false false true p q r e = absurd cc
         go false false false p q r e = cc
-
--- with one that stands, statements are the same
-pub stands_already : (stmts : List Stmt) (x : Stmt) → ascending statement_cmp stmts ≡ true → stands stmts x ≡ true → with_statement stmts x ≡ stmts
-stands_already stmts x s e = members_make_set statement_exact (with_statement stmts x) stmts (put_keeps_order statement_exact stmts x s) s
-    (λ z. put_adds_member statement_exact stmts x z ∙ elim (cases_Bool (is_eq (statement_cmp x z))) [
-      | inl a ↦ ap (λ b. b || stands stmts z) a ∙ sym (ap (stands stmts) (sym (statement_exact.exact x z (is_eq-Equal (statement_cmp x z) a))) ∙ e)
-      | inr a ↦ ap (λ b. b || stands stmts z) a
-    ])
 
 -- the statements that are left to come, what the base comes to, and what is written for all
 pub record IsToCome (old now : Seen) (c : Counts) (all come end : List Stmt) (b : Contents) : Type 0 where
@@ -223,7 +212,7 @@ one_came b x rest old new c d New m h = record {
   next = m.next;
 }
 one_came b x rest old new c d Already m h =
-    let same : b.stmts ≡ with_statement b.stmts x = sym (stands_already b.stmts x m.base.valid.stmts.sorted h.there) in
+    let same : b.stmts ≡ with_statement b.stmts x = sym (put_stands b.stmts x m.base.valid.stmts.sorted h.there) in
     let base : StoresSized new.kept d (with_one b x) = subst (λ ys. StoresSized new.kept d (with_stmts b ys)) same (record {
       stored = subst (λ (t : Tables). Stores t b) (sym h.untouched.kept) m.base.stored;
       valid = m.base.valid;

@@ -5,7 +5,7 @@ use Rattle.std.specs.List.{AllByRecursion, list_all, flat_map}
 use Rattle.std.specs.Option.{option_map}
 use Rattle.std.specs.Ordering.{is_eq, is_lt}
 use Rattle.std.specs.FinMap as tables
-use Rattle.std.proofs.lemmas.Bool.{cases_Bool, and_parts, and_from, false≢true, false_from_ne_true, or_left, or_right, or_cases, cond-true, cond-false, eq-eqb, eqb-true, not-true, not_from_false}
+use Rattle.std.proofs.lemmas.Bool.{cases_Bool, and_parts, and_from, false≢true, false_from_ne_true, or_left, or_right, or_cases, cond-true, cond-false, eq-eqb, eqb-true, not-true, not_from_false, or_from}
 use Rattle.std.proofs.lemmas.List.{length-map}
 use Rattle.std.proofs.lemmas.List.Concat.{length-flat_map}
 use Rattle.std.proofs.lemmas.List.Folds.{list_any-append}
@@ -26,6 +26,8 @@ use Rattle.bdb_base.specs.declared.tuple.Tuple.{Tuple}
 use Rattle.bdb_base.proofs.SetLemmas.{is_eq_itself, is_lt-Less}
 use Rattle.bdb_base.proofs.WorldLemmas.{stated_tuples_are_explicit}
 use Rattle.bdb_base.proofs.WorldRowsLemmas.{rows_are_the_world, same_row_tells, same_row_from, tuples_stand_once}
+use Rattle.bdb_base.proofs.OptionLemmas.{some_of}
+use Rattle.bdb_base.proofs.AllLemmas.{all_append}
 use Rattle.bdb_canon.specs.Canonical.{row_count}
 use Rattle.bdb_keep.specs.Tables.{Tables}
 use Rattle.bdb_key.specs.Grammar.{IsNum}
@@ -35,10 +37,11 @@ use Rattle.bdb_tables.specs.InUseLaws.{vals_are_one}
 use Rattle.bdb_tables.specs.Marks.{Mark, sign_by, marked, mark_of}
 use Rattle.bdb_tables.specs.Names.{Names, path_of, is_listed, are_once}
 use Rattle.bdb_tables.specs.Rows.{Tuples, HoldsTuples, HoldsRows, row_for, AreKeyLengths}
-use Rattle.bdb_tables.proofs.DifferenceLemmas.{is_among}
+use Rattle.bdb_tables.proofs.DifferenceLemmas.{is_among, distinct_append}
+use Rattle.bdb_tables.proofs.UsedLemmas.{AllNamed, rest_named, first_named}
 use Rattle.bdb_val.specs.Reads.{HasRows}
 use Rattle.bdb_val.specs.Settling.{row_key}
-use Rattle.bdb_val.proofs.HeldLemmas.{some_is, held_names, right_row}
+use Rattle.bdb_val.proofs.HeldLemmas.{held_names, right_row}
 use Rattle.bdb_val.proofs.ReadLemmas.{key_fits}
 use Rattle.bdb_update.specs.Differing.{has_told}
 use Rattle.bdb_update.specs.Tallies.{HasRowCount, vals_at, nothing_at}
@@ -47,21 +50,6 @@ use Rattle.bdb_update.specs.Tallies.{HasRowCount, vals_at, nothing_at}
 
 among_append : (p : List ℕ) (xs ys : List (List ℕ)) → is_among p (xs ++ ys) ≡ (is_among p xs || is_among p ys)
 among_append p xs ys = list_any-append (same_text p) xs ys
-
-pub append_distinct : (xs ys : List (List ℕ)) → are_distinct xs ≡ true → are_distinct ys ≡ true → AllByRecursion (λ p. is_among p ys ≡ false) xs → are_distinct (xs ++ ys) ≡ true
-append_distinct [] ys dx dy apart = dy
-append_distinct (x ∷ xs) ys dx dy apart =
-    let k = and_parts (not (is_among x xs)) (are_distinct xs) dx in
-    and_from (not (is_among x (xs ++ ys))) (are_distinct (xs ++ ys))
-    (not_from_false (is_among x (xs ++ ys)) (among_append x xs ys ∙ both (is_among x xs) (is_among x ys) (not-true (is_among x xs) k.0) apart.0))
-    (append_distinct xs ys k.1 dy apart.1)
-  where
-    both : (a b : Bool) → a ≡ false → b ≡ false → (a || b) ≡ false
-    both a b e f = ap (λ c. c || b) e ∙ f
-
-all_append : (P : List ℕ → Type 0) (xs ys : List (List ℕ)) → AllByRecursion P xs → AllByRecursion P ys → AllByRecursion P (xs ++ ys)
-all_append P [] ys h k = k
-all_append P (x ∷ xs) ys h k = (h.0, all_append P xs ys h.1 k)
 
 all_mapped : (P : List ℕ → Type 0) (Q : Held → Type 0) (f : Held → List ℕ) → ((h : Held) → Q h → P (f h)) → (hs : List Held) → AllByRecursion Q hs → AllByRecursion P (map f hs)
 all_mapped P Q f g [] a = tt
@@ -164,7 +152,7 @@ module _ (keys : ℕ → ℕ) where
 
     -- a tuple of a world has a number
     numbered : (w : List ℕ) (h : Held) → IsOfWorld w h → (tid : ℕ) × (ts.number h.tuple ≡ Some tid)
-    numbered w h e = some_is (ts.number h.tuple) (tuples.stated h.tuple ∙ within h.tuple (stated_tuples_are_explicit keys stmts w h.tuple h.sign e))
+    numbered w h e = some_of (ts.number h.tuple) (tuples.stated h.tuple ∙ within h.tuple (stated_tuples_are_explicit keys stmts w h.tuple h.sign e))
 
     key_is : (n : ℕ) (h : Held) (tid : ℕ) → ts.number h.tuple ≡ Some tid → key n h ≡ row_key keys n tid h.tuple
     unfolding key
@@ -213,15 +201,12 @@ module _ (keys : ℕ → ℕ) where
         apart [] b l = refl
         apart (g ∷ gs) b l =
             let m = and_parts (is_lt (row_tuple_cmp h g)) (list_all (λ z. is_lt (row_tuple_cmp h z)) gs) l in
-            neither (same_text (at n h) (at n g)) (is_among (at n h) (map (at n) gs))
+            or_from (same_text (at n h) (at n g)) (is_among (at n h) (map (at n) gs))
             (false_from_ne_true (same_text (at n h) (at n g)) (λ e.
             let same = one_place n n w w h g p p a.0 b.0 ((same_text-Decides (at n h) (at n g)).0 e) in
             below_itself h.tuple (ap (λ u. is_lt (tuple_cmp h.tuple u)) same.1 ∙ m.0)))
             (apart gs b.1 m.1)
           where
-            neither : (x y : Bool) → x ≡ false → y ≡ false → (x || y) ≡ false
-            neither x y e f = ap (λ c. c || y) e ∙ f
-
             below_itself : (u : Tuple) → is_lt (tuple_cmp u u) ≡ true → ⊥
             below_itself u e = false≢true (sym (ap is_eq (is_lt-Less (tuple_cmp u u) e)) ∙ is_eq_itself tuple_exact u)
 
@@ -230,45 +215,33 @@ module _ (keys : ℕ → ℕ) where
     abbrev places : List ℕ → List (List ℕ)
     places ks = flat_map world_places ks
 
-    abbrev AllNamed : List ℕ → Type 0
-    AllNamed ks = (k : ℕ) → is_listed k ks ≡ true → is_some (path_of ns k) ≡ true
-
-    rest_named : (k : ℕ) (ks : List ℕ) → AllNamed (k ∷ ks) → AllNamed ks
-    rest_named k ks h j e = h j (or_right (nat_eq j k) (is_listed j ks) e)
-
-    first_named : (k : ℕ) (ks : List ℕ) → AllNamed (k ∷ ks) → (w : List ℕ) × (path_of ns k ≡ Some w)
-    first_named k ks h = some_is (path_of ns k) (h k (or_left (nat_eq k k) (is_listed k ks) (eq-eqb k k refl)))
-
     -- a row of one world is not among those of others
-    elsewhere : (n : ℕ) (w : List ℕ) (h : Held) → path_of ns n ≡ Some w → IsOfWorld w h → (ks : List ℕ) → AllNamed ks → is_listed n ks ≡ false → is_among (at n h) (places ks) ≡ false
+    elsewhere : (n : ℕ) (w : List ℕ) (h : Held) → path_of ns n ≡ Some w → IsOfWorld w h → (ks : List ℕ) → AllNamed (path_of ns) ks → is_listed n ks ≡ false → is_among (at n h) (places ks) ≡ false
     elsewhere n w h p a [] named out = refl
     elsewhere n w h p a (k ∷ ks) named out =
         among_append (at n h) (world_places k) (places ks)
-        ∙ neither (is_among (at n h) (world_places k)) (is_among (at n h) (places ks))
-        (not_here (first_named k ks named).0 (first_named k ks named).1 (held_of k) (there k (first_named k ks named).0 (first_named k ks named).1))
-        (elsewhere n w h p a ks (rest_named k ks named) (false_from_ne_true (is_listed n ks) (λ e. false≢true (sym out ∙ or_right (nat_eq n k) (is_listed n ks) e))))
+        ∙ or_from (is_among (at n h) (world_places k)) (is_among (at n h) (places ks))
+        (not_here (first_named (path_of ns) k ks named).0 (first_named (path_of ns) k ks named).1 (held_of k) (there k (first_named (path_of ns) k ks named).0 (first_named (path_of ns) k ks named).1))
+        (elsewhere n w h p a ks (rest_named (path_of ns) k ks named) (false_from_ne_true (is_listed n ks) (λ e. false≢true (sym out ∙ or_right (nat_eq n k) (is_listed n ks) e))))
       where
-        neither : (x y : Bool) → x ≡ false → y ≡ false → (x || y) ≡ false
-        neither x y e f = ap (λ c. c || y) e ∙ f
-
         not_here : (v : List ℕ) → path_of ns k ≡ Some v → (gs : List Held) → AllByRecursion (IsOfWorld v) gs → is_among (at n h) (map (at k) gs) ≡ false
         not_here v q [] b = refl
-        not_here v q (g ∷ gs) b = neither (same_text (at n h) (at k g)) (is_among (at n h) (map (at k) gs))
+        not_here v q (g ∷ gs) b = or_from (same_text (at n h) (at k g)) (is_among (at n h) (map (at k) gs))
             (false_from_ne_true (same_text (at n h) (at k g)) (λ e.
             let same = one_place n k w v h g p q a b.0 ((same_text-Decides (at n h) (at k g)).0 e) in
             false≢true (sym out ∙ or_left (nat_eq n k) (is_listed n ks) (eq-eqb n k same.0))))
             (not_here v q gs b.1)
 
-    once : (ks : List ℕ) → AllNamed ks → are_once ks ≡ true → are_distinct (places ks) ≡ true
+    once : (ks : List ℕ) → AllNamed (path_of ns) ks → are_once ks ≡ true → are_distinct (places ks) ≡ true
     once [] named o = refl
     once (k ∷ ks) named o =
         let c = and_parts (not (is_listed k ks)) (are_once ks) o in
-        let v = first_named k ks named in
-        append_distinct (world_places k) (places ks)
+        let v = first_named (path_of ns) k ks named in
+        distinct_append (world_places k) (places ks)
         (once_in k v.0 v.1 (held_of k) (there k v.0 v.1) (tuples_stand_once keys stmts consistent (world k)))
-        (once ks (rest_named k ks named) c.1)
+        (once ks (rest_named (path_of ns) k ks named) c.1)
         (all_mapped (λ q. is_among q (places ks) ≡ false) (IsOfWorld v.0) (at k)
-        (λ h a. elsewhere k v.0 h v.1 a ks (rest_named k ks named) (not-true (is_listed k ks) c.0)) (held_of k) (there k v.0 v.1))
+        (λ h a. elsewhere k v.0 h v.1 a ks (rest_named (path_of ns) k ks named) (not-true (is_listed k ks) c.0)) (held_of k) (there k v.0 v.1))
 
     -- each has a row
     has_row_at : (n : ℕ) (w : List ℕ) (h : Held) → path_of ns n ≡ Some w → IsOfWorld w h → is_some (tables.get t (at n h)) ≡ true
@@ -282,13 +255,13 @@ module _ (keys : ℕ → ℕ) where
         bytes_there None = refl
         bytes_there (Some m) = refl
 
-    each : (ks : List ℕ) → AllNamed ks → AllByRecursion (λ q. vals_at t q ≢ nothing_at q) (places ks)
+    each : (ks : List ℕ) → AllNamed (path_of ns) ks → AllByRecursion (λ q. vals_at t q ≢ nothing_at q) (places ks)
     unfolding at
     each [] named = tt
     each (k ∷ ks) named =
-        let v = first_named k ks named in
+        let v = first_named (path_of ns) k ks named in
         all_append (λ q. vals_at t q ≢ nothing_at q) (world_places k) (places ks)
-        (all_mapped (λ q. vals_at t q ≢ nothing_at q) (IsOfWorld v.0) (at k) (λ h a. there_is k h (has_row_at k v.0 h v.1 a)) (held_of k) (there k v.0 v.1)) (each ks (rest_named k ks named))
+        (all_mapped (λ q. vals_at t q ≢ nothing_at q) (IsOfWorld v.0) (at k) (λ h a. there_is k h (has_row_at k v.0 h v.1 a)) (held_of k) (there k v.0 v.1)) (each ks (rest_named (path_of ns) k ks named))
       where
         there_is : (n : ℕ) (h : Held) → is_some (tables.get t (at n h)) ≡ true → vals_at t (at n h) ≢ None
         there_is n h s e = false≢true (sym (ap is_some e) ∙ s)
@@ -315,7 +288,7 @@ module _ (keys : ℕ → ℕ) where
     unfolding at key
     found k v s =
         let named = held_names keys stmts told ns ts t tuples k s in
-        let w = some_is (path_of ns k.0) named.0 in
+        let w = some_of (path_of ns k.0) named.0 in
         let u = named.1.0 in
         let n = named.1.1 in
         let same = named.1.2 in
@@ -348,7 +321,7 @@ module _ (keys : ℕ → ℕ) where
             stands None g = absurd cc
             stands (Some m) g = refl
 
-    all_named : AllNamed ns.used
+    all_named : AllNamed (path_of ns) ns.used
     all_named k e = sym (used.counted k) ∙ e
 
     counted : (ks : List ℕ) → length (places ks) ≡ sum_by (rows_of stmts ns) ks

@@ -10,20 +10,22 @@ use Rattle.bdb_base.specs.Causes.{Rises}
 use Rattle.bdb_base.specs.Same.{same_text}
 use Rattle.bdb_base.specs.SameLemmas.{same_text-Decides}
 use Rattle.bdb_base.specs.declared.tuple.Tuple.{Tuple}
+use Rattle.bdb_base.proofs.BoolLemmas.{not_twice}
+use Rattle.bdb_base.proofs.OptionLemmas.{none_is_some}
 use Rattle.bdb_keep.specs.Seen.{Seen}
 use Rattle.bdb_keep.specs.Tables.{Tables, bytes_cmp}
+use Rattle.bdb_keep.proofs.RowsLemmas.{same_place}
 use Rattle.bdb_tables.specs.Codec.{Codec, place}
 use Rattle.bdb_tables.specs.Differences.{AreDifferences}
 use Rattle.bdb_tables.specs.InUse.{ValKey, tuple_codec, tuple_ix_codec, val_codec}
 use Rattle.bdb_tables.specs.Marks.{Mark}
 use Rattle.bdb_tables.specs.Writes.{with_change}
 use Rattle.bdb_tables.proofs.DifferenceLemmas.{is_among}
-use Rattle.bdb_tables.proofs.Held.{same_place}
 use Rattle.bdb_tables.proofs.SameLemmas.{change_same}
 use Rattle.bdb_tables.proofs.WriteLemmas.{get_after_change}
 use Rattle.bdb_val.specs.Counts.{TellsDifferences}
 use Rattle.bdb_val.specs.Others.{SameBut}
-use Rattle.bdb_worlds.specs.Bounds.{RisesWithin}
+use Rattle.bdb_worlds.specs.Bounds.{EndsWithin}
 use Rattle.bdb_worlds.specs.Bounds as states
 use Rattle.bdb_worlds.specs.Growth.{SameOutside}
 use Rattle.bdb_update.specs.Keeping.{KeepsTuples}
@@ -34,7 +36,7 @@ use Rattle.bdb_update.specs.Tallies.{vals_at}
 use Rattle.bdb_update.proofs.BetweenLemmas.{Look, differences_like, passing, rows_whole, whole_differences}
 use Rattle.bdb_update.proofs.BoundLemmas.{states_over_rows}
 use Rattle.bdb_update.proofs.CallLemmas.{IsQuiet}
-use Rattle.bdb_update.proofs.TallyLemmas.{Places, all_filter, all_of, among_passing, fewer, filter_distinct, not_twice, rows_alone, same_row, same_row_from, same_row_is}
+use Rattle.bdb_update.proofs.TallyLemmas.{Places, all_filter, all_of, among_passing, fewer, filter_distinct, rows_alone, same_row, same_row_from, same_row_is}
 
 -- ---- a table's changes alone
 
@@ -63,16 +65,13 @@ number_gone_alone t u tid tuple e =
     subst (λ (v : Tables). SameBut is_of_tuples t v) (sym e)
     (alone_then is_of_tuples t m (with_change tuple_ix_codec m (tuple, None)) (change_alone tuple_codec is_of_tuples t (tid, None) refl) (change_alone tuple_ix_codec is_of_tuples m (tuple, None) refl))
 
-none_some : (r : List ℕ) → None ≡ Some r → ⊥
-none_some r e = cc
-
 -- a number that was free takes no other's place
 pub number_keeps : (t u : Tables) (tid : ℕ) (tuple : Tuple) → tables.get t (place tuple_codec tid) ≡ None → u ≡ number_put t tid tuple → KeepsTuples t u
 number_keeps t u tid tuple free e k r found =
     let m = with_change tuple_codec t (tid, Some tuple) in
     let first : tables.get m (4 ∷ k) ≡ tables.get t (4 ∷ k) = get_after_change tuple_codec t (tid, Some tuple) (4 ∷ k)
     ∙ cond-false (eq_by_cmp bytes_cmp (4 ∷ k) (place tuple_codec tid)) (Some (tuple_codec.row_bytes tuple)) (tables.get t (4 ∷ k))
-    (false_from_ne_true (eq_by_cmp bytes_cmp (4 ∷ k) (place tuple_codec tid)) (λ s. none_some r (sym free ∙ ap (tables.get t) (sym (same_place (4 ∷ k) (place tuple_codec tid) s)) ∙ found))) in
+    (false_from_ne_true (eq_by_cmp bytes_cmp (4 ∷ k) (place tuple_codec tid)) (λ s. none_is_some r (sym free ∙ ap (tables.get t) (sym (same_place (4 ∷ k) (place tuple_codec tid) s)) ∙ found))) in
     ap (λ (v : Tables). tables.get v (4 ∷ k)) e ∙ change_alone tuple_ix_codec (λ n. nat_eq n 5) m (tuple, Some tid) refl (4 ∷ k) refl ∙ first ∙ found
 
 -- where a number goes, each row of a tuple that is left stood before
@@ -84,7 +83,7 @@ number_stood t u tid tuple e k r found =
     let there : tables.get m (4 ∷ k) ≡ Some r =
     sym (ap (λ (v : Tables). tables.get v (4 ∷ k)) e ∙ change_alone tuple_ix_codec (λ n. nat_eq n 5) m (tuple, None) refl (4 ∷ k) refl) ∙ found in
     elim (cases_Bool is) [
-      | inl same ↦ absurd (none_some r (sym (after ∙ cond-true is None (tables.get t (4 ∷ k)) same) ∙ there))
+      | inl same ↦ absurd (none_is_some r (sym (after ∙ cond-true is None (tables.get t (4 ∷ k)) same) ∙ there))
       | inr other ↦ sym (after ∙ cond-false is None (tables.get t (4 ∷ k)) other) ∙ there
     ]
 
@@ -180,7 +179,7 @@ states_then_rows d rows old mid new within outside alone rises later ps diff sma
 
 pub still_within : (times more : ℕ) (old mid new : Seen) → mid.kept ≡ old.kept → mid.writes ≡ old.writes → WritesWithin times more mid new → WritesWithin times more old new
 still_within times more old mid new kept writes h ps d =
-    subst (λ n. RisesWithin (times * length ps + more) n new.writes) writes (h ps (subst (λ (t : Tables). AreDifferences (tables.get t) (tables.get new.kept) ps) (sym kept) d))
+    subst (λ n. EndsWithin (times * length ps + more) n new.writes) writes (h ps (subst (λ (t : Tables). AreDifferences (tables.get t) (tables.get new.kept) ps) (sym kept) d))
 
 pub quiet_within : (times more : ℕ) (old mid new : Seen) → IsQuiet old mid → WritesWithin times more mid new → WritesWithin times more old new
 quiet_within times more old mid new q h = still_within times more old mid new q.kept q.writes h

@@ -1,13 +1,13 @@
 -- What tables have that store a base in the middle of a change.
-use Rattle.std.proofs.Common.{◌≡◌, ◌∙◌, ℕ, ◌≤◌, Bool, true, false, ◌&&◌, nat_le, List, refl, ap, sym, length, Option, Some, None, is_some}
+use Rattle.std.proofs.Common.{◌≡◌, ◌∙◌, ℕ, ◌≤◌, Bool, true, false, ◌&&◌, nat_le, List, ap, sym, length, is_some}
 use Rattle.std.specs.List.{list_all}
-use Rattle.std.specs.Option.{option_map}
 use Rattle.std.proofs.lemmas.Bool.{and_parts, leb-true}
 use Rattle.bdb_base.specs.Alternation.{alternates}
 use Rattle.bdb_base.specs.Bases.{Contents, belongs, is_user, fits_relation}
 use Rattle.bdb_base.specs.Limits.{deepest_statement}
 use Rattle.bdb_base.specs.declared.kinds.Catalog.{Catalog}
 use Rattle.bdb_base.specs.declared.kinds.Stmt.{Stmt}
+use Rattle.bdb_base.proofs.OptionLemmas.{some_mapped}
 use Rattle.bdb_keep.specs.Tables.{Tables}
 use Rattle.bdb_tables.specs.InUse.{val_codec, tuple_codec}
 use Rattle.bdb_tables.specs.Names.{Names, path_of}
@@ -17,18 +17,13 @@ use Rattle.bdb_val.proofs.HeldLemmas.{held_names}
 use Rattle.bdb_tables.specs.Stored.{SameBut, StoredOver}
 use Rattle.bdb_update.specs.Keys.{keys_of}
 
--- a row that is written stands for something
-stands_for : {X : Type 0} (bytes : X → List ℕ) (o : Option X) → is_some (option_map bytes o) ≡ is_some o
-stands_for bytes None = refl
-stands_for bytes (Some x) = refl
-
 -- each row of a world has its tuple
 pub over_has_tuples : (reached told : List Stmt) (ns : Names) (ts : Tuples) (t : Tables) (b : Contents) → StoredOver reached told ns ts t b → HaveTuples t
 over_has_tuples reached told ns ts t b h k v s =
     let f = row_for (keys_of b) b.stmts (path_of ns) ts.tuple in
-    let there : is_some (f k) ≡ true = sym (ap is_some (h.rows.rows k v) ∙ stands_for val_codec.row_bytes (f k)) ∙ s in
+    let there : is_some (f k) ≡ true = sym (ap is_some (h.rows.rows k v) ∙ some_mapped val_codec.row_bytes (f k)) ∙ s in
     let named = (held_names (keys_of b) b.stmts told ns ts t h.tuples k there).1 in
-    ap is_some (h.tuples.tuples.rows k.3 v.tuple) ∙ stands_for tuple_codec.row_bytes (ts.tuple k.3) ∙ ap is_some named.1
+    ap is_some (h.tuples.tuples.rows k.3 v.tuple) ∙ some_mapped tuple_codec.row_bytes (ts.tuple k.3) ∙ ap is_some named.1
 
 -- and still has where neither table has changed
 pub tuples_still : (test : ℕ → Bool) (t u : Tables) → SameBut test t u → test 4 ≡ false → test 11 ≡ false → HaveTuples t → HaveTuples u

@@ -1,23 +1,24 @@
 -- What is said of a statement tells whether it stands.
-use Rattle.std.proofs.Common.{◌≡◌, ◌∙◌, true, Ok, Err, ap, sym, subst, inl, inr}
+use Rattle.std.proofs.Common.{◌≡◌, ◌∙◌, true, Err, ap, sym, subst, inl, inr}
 use Rattle.std.proofs.lemmas.Bool.{cases_Bool}
 use Rattle.bdb_base.specs.Bases.{Contents, IsValid, stands, with_statement}
 use Rattle.bdb_base.specs.declared.kinds.Stmt.{Stmt}
+use Rattle.bdb_base.proofs.UpdateLemmas.{put_stands}
 use Rattle.bdb_canon.specs.Sizes.{counts_of}
 use Rattle.bdb_canon.specs.declared.sizes.Counts.{Counts}
 use Rattle.bdb_keep.specs.Calls.{IsRead}
-use Rattle.bdb_keep.specs.Seen.{Seen, Steps}
+use Rattle.bdb_keep.specs.Seen.{Seen}
 use Rattle.bdb_keep.specs.Tables.{Tables}
-use Rattle.bdb_tables.proofs.Loops.{steps_ok}
+use Rattle.bdb_tables.proofs.Loops.{err_steps}
 use Rattle.bdb_update.specs.Calls.{with_stmts, size_passed}
 use Rattle.bdb_update.specs.Examining.{Examines, IsProspect, StandsThere, says_stands}
 use Rattle.bdb_update.specs.declared.looking.Prospect.{Prospect}
 use Rattle.bdb_update.specs.declared.looking.Prospect.TheVariants.{Clashes, Stands, Fills, Fits}
-use Rattle.bdb_update.proofs.ReplaceLemmas.{no_clash, no_limit, stands_already}
+use Rattle.bdb_update.proofs.ReplaceLemmas.{no_clash, no_limit}
 
 -- the base with a statement that stands is the base
 with_standing : (b : Contents) (x : Stmt) → IsValid b.catalog b.stmts → stands b.stmts x ≡ true → with_statement b.stmts x ≡ b.stmts
-with_standing b x v e = stands_already b.stmts x v.stmts.sorted e
+with_standing b x v e = put_stands b.stmts x v.stmts.sorted e
 
 still_valid : (b : Contents) (x : Stmt) → IsValid b.catalog b.stmts → stands b.stmts x ≡ true → IsValid b.catalog (with_statement b.stmts x)
 still_valid b x v e = subst (IsValid b.catalog) (sym (with_standing b x v e)) v
@@ -36,14 +37,6 @@ by_prospect t b x (Fits r) v h = sym h.fresh
 
 pub prospect_tells : (t : Tables) (counts : Counts) (x : Stmt) (verdict : Prospect) → Examines t counts x verdict → StandsThere t counts x (says_stands verdict)
 prospect_tells t counts x verdict h b m = by_prospect t b x verdict m.base.valid (h b m)
-
--- a read whose answer is another one, and one that was refused
-pub read_answers : {T U E : Type 0} (old new : Seen) (x : T) (y : U) (fault : E) → IsRead {T = T} {E = E} old new (Ok x) fault → IsRead {T = U} {E = E} old new (Ok y) fault
-read_answers old new x y fault r = record { rest = r.rest; kept = r.kept; writes = r.writes; counts = r.counts; steps = steps_ok old new y fault r.steps.ok }
-
-err_steps : {T U E : Type 0} (old new : Seen) (e fault : E) → Steps {T = T} {E = E} old new (Err e) fault → Steps {T = U} {E = E} old new (Err e) fault
-err_steps old new e fault h =
-    record { cause = record { later = h.cause.later; rose = λ is. h.cause.rose (let same : e ≡ fault = cc in ap Err same) }; ok = tt; err = h.err }
 
 pub read_refused : {T U E : Type 0} (old new : Seen) (e fault : E) → IsRead {T = T} {E = E} old new (Err e) fault → IsRead {T = U} {E = E} old new (Err e) fault
 read_refused {T} {U} old new e fault r = record { rest = r.rest; kept = tt; writes = r.writes; counts = r.counts; steps = err_steps {T = T} {U = U} old new e fault r.steps }

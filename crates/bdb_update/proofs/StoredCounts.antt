@@ -1,5 +1,5 @@
 -- Tables that store a base have as many rows as its worlds.
-use Rattle.std.proofs.Common.{◌≡◌, ◌≢◌, ◌∙◌, ℕ, ◌+◌, ◌≤◌, Bool, true, false, not, ◌||◌, nat_eq, cond, List, [], ◌∷◌, length, Option, Some, None, is_some, refl, sym, ap, subst, arith, inl, inr}
+use Rattle.std.proofs.Common.{◌≡◌, ◌≢◌, ◌∙◌, ℕ, ◌+◌, ◌≤◌, Bool, true, false, not, ◌||◌, nat_eq, cond, List, [], ◌∷◌, length, Some, None, is_some, refl, sym, ap, subst, arith, inl, inr}
 use Rattle.std.specs.Prelude.{sum_by}
 use Rattle.std.specs.List.{AllByRecursion}
 use Rattle.std.specs.Ordering.{is_eq, eq_by_cmp}
@@ -12,8 +12,10 @@ use Rattle.bdb_base.specs.SameLemmas.{same_text-Decides}
 use Rattle.bdb_base.specs.declared.kinds.Stmt.{Stmt}
 use Rattle.bdb_base.specs.declared.tuple.Tuple.{Tuple}
 use Rattle.bdb_base.proofs.WorldLemmas.{valid_is_consistent}
+use Rattle.bdb_base.proofs.OptionLemmas.{none_there}
 use Rattle.bdb_canon.specs.Sizes.{counts_of}
 use Rattle.bdb_keep.specs.Tables.{Tables, bytes_cmp}
+use Rattle.bdb_keep.proofs.RowsLemmas.{same_place}
 use Rattle.bdb_key.specs.Rows.{mark_bytes}
 use Rattle.bdb_key.proofs.Forms.{tied}
 use Rattle.bdb_tables.specs.Codec.{place}
@@ -23,7 +25,6 @@ use Rattle.bdb_tables.specs.Names.{Names}
 use Rattle.bdb_tables.specs.Rows.{Tuples}
 use Rattle.bdb_tables.specs.Writes.{with_change}
 use Rattle.bdb_tables.proofs.DifferenceLemmas.{is_among}
-use Rattle.bdb_tables.proofs.Held.{same_place}
 use Rattle.bdb_tables.proofs.WriteLemmas.{get_after_change}
 use Rattle.bdb_update.proofs.KeyLemmas.{lengths_fit}
 use Rattle.bdb_update.specs.Differing.{has_told}
@@ -66,10 +67,6 @@ all_at P q (p ∷ ps) h e = by (same_text q p) refl e (all_at P q ps h.1)
     by : (c : Bool) → same_text q p ≡ c → (c || is_among q ps) ≡ true → (is_among q ps ≡ true → P q) → P q
     by true s f r = subst P (sym ((same_text-Decides q p).0 s)) h.0
     by false s f r = r f
-
-none_is : (o : Option (List ℕ)) → is_some o ≡ false → o ≡ None
-none_is None e = refl
-none_is (Some z) e = absurd (false≢true (sym e))
 
 module _ (t m : Tables) (k : ValKey) (mark : Mark) (made : m ≡ with_change val_codec t (k, Some mark)) (n : ℕ) (x : HasRowCount t n) where
   here : (q : List ℕ) → same_text q (place val_codec k) ≡ true → vals_at m q ≡ Some (mark_bytes mark)
@@ -123,7 +120,7 @@ module _ (t m : Tables) (k : ValKey) (mark : Mark) (made : m ≡ with_change val
         are = record {
           once = and_from (not (is_among (place val_codec k) x.places)) (are_distinct x.places)
               (not_from_false (is_among (place val_codec k) x.places) (false_from_ne_true (is_among (place val_codec k) x.places) (λ e.
-              all_at (λ q. vals_at t q ≢ nothing_at q) (place val_codec k) x.places x.are.each e (none_is (tables.get t (place val_codec k)) none)))) x.are.once;
+              all_at (λ q. vals_at t q ≢ nothing_at q) (place val_codec k) x.places x.are.each e (none_there (tables.get t (place val_codec k)) none)))) x.are.once;
           each = (some_row (place val_codec k) ((same_text-Decides (place val_codec k) (place val_codec k)).1 refl), each_still x.places x.are.each);
           only = λ q out. none_else q
               (false_from_ne_true (same_text q (place val_codec k)) (λ e. false≢true (sym out ∙ or_left (same_text q (place val_codec k)) (is_among q x.places) e)))

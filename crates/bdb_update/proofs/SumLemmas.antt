@@ -3,7 +3,7 @@ use Rattle.std.proofs.Common.{◌≡◌, ◌∙◌, ℕ, ◌+◌, ◌*◌, ◌�
 use Rattle.std.specs.Prelude.{sum_by}
 use Rattle.std.specs.List.{AllByRecursion, list_all, flat_map}
 use Rattle.std.specs.Ordering.{is_eq, is_lt}
-use Rattle.std.proofs.lemmas.Bool.{cases_Bool, and_parts, and_from, false≢true, false_from_ne_true, or_left, or_right, or_cases, cond-true, cond-false, not-true, not_from_false, eq-eqb, eqb-true}
+use Rattle.std.proofs.lemmas.Bool.{cases_Bool, and_parts, and_from, false≢true, false_from_ne_true, or_left, or_right, or_cases, cond-true, cond-false, not-true, not_from_false, eq-eqb, eqb-true, or_from}
 use Rattle.std.proofs.lemmas.List.{length-map}
 use Rattle.std.proofs.lemmas.List.Concat.{length-flat_map}
 use Rattle.std.proofs.lemmas.List.Sums.{sum_by-cons}
@@ -22,11 +22,12 @@ use Rattle.bdb_base.specs.declared.tuple.Tuple.{Tuple}
 use Rattle.bdb_base.proofs.BaseLemmas.{length-put_in}
 use Rattle.bdb_base.proofs.SetLemmas.{is_lt-Less, set_is_ascending}
 use Rattle.bdb_base.proofs.WorldRowsLemmas.{one_row}
+use Rattle.bdb_base.proofs.OptionLemmas.{some_of}
 use Rattle.bdb_canon.specs.Canonical.{row_count}
 use Rattle.bdb_paths.proofs.StateLemmas.{list_has_states}
 use Rattle.bdb_tables.specs.Names.{Names, AreNames, path_of, number_of, is_named, is_listed, are_once}
 use Rattle.bdb_tables.proofs.DifferenceLemmas.{is_among}
-use Rattle.bdb_val.proofs.HeldLemmas.{some_is}
+use Rattle.bdb_tables.proofs.UsedLemmas.{AllNamed, rest_named, first_named}
 use Rattle.bdb_update.proofs.RowLemmas.{rows_of, rows_of_is, rows_of_few}
 
 abbrev Paths : Type 0
@@ -151,11 +152,8 @@ ascending_distinct (x ∷ xs) e =
     absent [] l = refl
     absent (y ∷ ys) l =
         let m = and_parts (is_lt (path_cmp x y)) (list_all (λ z. is_lt (path_cmp x z)) ys) l in
-        neither (same_text x y) (is_among x ys) (false_from_ne_true (same_text x y) (λ s.
+        or_from (same_text x y) (is_among x ys) (false_from_ne_true (same_text x y) (λ s.
         false≢true (sym (ap is_eq (is_lt-Less (path_cmp x y) m.0)) ∙ is_eq_path_cmp x y ∙ s))) (absent ys m.1)
-      where
-        neither : (a b : Bool) → a ≡ false → b ≡ false → (a || b) ≡ false
-        neither a b f g = ap (λ c. c || b) f ∙ g
 
 module _ (keys : ℕ → ℕ) where
   -- ---- the rows of all states' worlds
@@ -172,22 +170,13 @@ module _ (keys : ℕ → ℕ) where
     unfolding path some_path
     path_is n w e = ap some_path e
 
-    abbrev AllNamed : List ℕ → Type 0
-    AllNamed ks = (k : ℕ) → is_listed k ks ≡ true → is_some (path_of ns k) ≡ true
-
-    rest_named : (k : ℕ) (ks : List ℕ) → AllNamed (k ∷ ks) → AllNamed ks
-    rest_named k ks h j e = h j (or_right (nat_eq j k) (is_listed j ks) e)
-
-    first_named : (k : ℕ) (ks : List ℕ) → AllNamed (k ∷ ks) → (w : List ℕ) × (path_of ns k ≡ Some w)
-    first_named k ks h = some_is (path_of ns k) (h k (or_left (nat_eq k k) (is_listed k ks) (eq-eqb k k refl)))
-
-    sums_meet : (ks : List ℕ) → AllNamed ks → sum_by (rows_of keys stmts ns) ks ≡ sum_by (row_count keys stmts) (map path ks)
+    sums_meet : (ks : List ℕ) → AllNamed (path_of ns) ks → sum_by (rows_of keys stmts ns) ks ≡ sum_by (row_count keys stmts) (map path ks)
     sums_meet [] h = refl
     sums_meet (k ∷ ks) h =
-        let w = first_named k ks h in
+        let w = first_named (path_of ns) k ks h in
         sum_by-cons (rows_of keys stmts ns) k ks
         ∙ ap (λ n. n + sum_by (rows_of keys stmts ns) ks) (rows_of_is keys stmts ns k w.0 w.1 ∙ ap (row_count keys stmts) (sym (path_is k w.0 w.1)))
-        ∙ ap (λ n. row_count keys stmts (path k) + n) (sums_meet ks (rest_named k ks h))
+        ∙ ap (λ n. row_count keys stmts (path k) + n) (sums_meet ks (rest_named (path_of ns) k ks h))
         ∙ sym (sum_by-cons (row_count keys stmts) (path k) (map path ks))
 
     one_number : (j k : ℕ) (v w : List ℕ) → path_of ns j ≡ Some v → path_of ns k ≡ Some w → v ≡ w → j ≡ k
@@ -196,13 +185,13 @@ module _ (keys : ℕ → ℕ) where
         one : (o : Option ℕ) → o ≡ Some j → o ≡ Some k → j ≡ k
         one o a b = cc
 
-    listed : (k : ℕ) (v : List ℕ) → path_of ns k ≡ Some v → (ks : List ℕ) → AllNamed ks → is_among v (map path ks) ≡ true → is_listed k ks ≡ true
+    listed : (k : ℕ) (v : List ℕ) → path_of ns k ≡ Some v → (ks : List ℕ) → AllNamed (path_of ns) ks → is_among v (map path ks) ≡ true → is_listed k ks ≡ true
     listed k v p [] h e = absurd (false≢true e)
     listed k v p (j ∷ ks) h e = elim (or_cases (same_text v (path j)) (is_among v (map path ks)) e) [
       | inl s ↦
-          let w = first_named j ks h in
+          let w = first_named (path_of ns) j ks h in
           or_left (nat_eq k j) (is_listed k ks) (eq-eqb k j (one_number k j v w.0 p w.1 ((same_text-Decides v (path j)).0 s ∙ path_is j w.0 w.1)))
-      | inr s ↦ or_right (nat_eq k j) (is_listed k ks) (listed k v p ks (rest_named j ks h) s)
+      | inr s ↦ or_right (nat_eq k j) (is_listed k ks) (listed k v p ks (rest_named (path_of ns) j ks h) s)
     ]
 
     among : (k : ℕ) (v : List ℕ) → path_of ns k ≡ Some v → (ks : List ℕ) → is_listed k ks ≡ true → is_among v (map path ks) ≡ true
@@ -212,26 +201,26 @@ module _ (keys : ℕ → ℕ) where
       | inr s ↦ or_right (same_text v (path j)) (is_among v (map path ks)) (among k v p ks s)
     ]
 
-    named_by : (v : List ℕ) (ks : List ℕ) → AllNamed ks → is_among v (map path ks) ≡ true → is_named ns v ≡ true
+    named_by : (v : List ℕ) (ks : List ℕ) → AllNamed (path_of ns) ks → is_among v (map path ks) ≡ true → is_named ns v ≡ true
     named_by v [] h e = absurd (false≢true e)
     named_by v (j ∷ ks) h e = elim (or_cases (same_text v (path j)) (is_among v (map path ks)) e) [
       | inl s ↦
-          let w = first_named j ks h in
+          let w = first_named (path_of ns) j ks h in
           ap (is_named ns) ((same_text-Decides v (path j)).0 s ∙ path_is j w.0 w.1) ∙ ap is_some (names.named j w.0 w.1)
-      | inr s ↦ named_by v ks (rest_named j ks h) s
+      | inr s ↦ named_by v ks (rest_named (path_of ns) j ks h) s
     ]
 
-    paths_distinct : (ks : List ℕ) → AllNamed ks → are_once ks ≡ true → are_distinct (map path ks) ≡ true
+    paths_distinct : (ks : List ℕ) → AllNamed (path_of ns) ks → are_once ks ≡ true → are_distinct (map path ks) ≡ true
     paths_distinct [] h o = refl
     paths_distinct (k ∷ ks) h o =
         let c = and_parts (not (is_listed k ks)) (are_once ks) o in
-        let w = first_named k ks h in
+        let w = first_named (path_of ns) k ks h in
         and_from (not (is_among (path k) (map path ks))) (are_distinct (map path ks))
         (not_from_false (is_among (path k) (map path ks)) (false_from_ne_true (is_among (path k) (map path ks)) (λ e.
-        false≢true (sym (not-true (is_listed k ks) c.0) ∙ listed k w.0 w.1 ks (rest_named k ks h) (ap (λ z. is_among z (map path ks)) (sym (path_is k w.0 w.1)) ∙ e)))))
-        (paths_distinct ks (rest_named k ks h) c.1)
+        false≢true (sym (not-true (is_listed k ks) c.0) ∙ listed k w.0 w.1 ks (rest_named (path_of ns) k ks h) (ap (λ z. is_among z (map path ks)) (sym (path_is k w.0 w.1)) ∙ e)))))
+        (paths_distinct ks (rest_named (path_of ns) k ks h) c.1)
 
-    all_named : AllNamed ns.used
+    all_named : AllNamed (path_of ns) ns.used
     all_named k e = sym (names.counted k) ∙ e
 
     pub sum_of_states : ((w : List ℕ) → is_named ns w ≡ is_state stmts w) → sum_by (rows_of keys stmts ns) ns.used ≡ sum_by (row_count keys stmts) (states_of stmts)
@@ -244,7 +233,7 @@ module _ (keys : ℕ → ℕ) where
         meet : (w : List ℕ) → is_among w (map path ns.used) ≡ is_named ns w
         meet w = elim (cases_Bool (is_named ns w)) [
           | inl e ↦
-              let n = some_is (number_of ns w) e in
+              let n = some_of (number_of ns w) e in
               let p = names.numbered w n.0 n.1 in
               among n.0 w p ns.used (names.counted n.0 ∙ ap is_some p) ∙ sym e
           | inr e ↦ false_from_ne_true (is_among w (map path ns.used)) (λ f. false≢true (sym e ∙ named_by w ns.used all_named f)) ∙ sym e

@@ -1,19 +1,19 @@
 -- The statements that pass a test: they stand, each once, and without them the others are left.
-use Rattle.std.proofs.Common.{◌≡◌, ◌∙◌, Bool, true, false, not, ◌&&◌, ◌||◌, List, [], ◌∷◌, filter, refl, ap, sym}
+use Rattle.std.proofs.Common.{◌≡◌, ◌∙◌, Bool, true, false, not, ◌&&◌, List, [], ◌∷◌, filter, refl, ap, sym}
 use Rattle.std.specs.List.{list_all}
 use Rattle.std.specs.Ordering.{is_eq, is_lt}
 use Rattle.std.proofs.lemmas.Bool.{and_parts, and_from, or_left, or_right, cond-false}
-use Rattle.bdb_base.specs.Bases.{stands, without_statement}
+use Rattle.bdb_base.specs.Bases.{stands}
 use Rattle.bdb_base.specs.Order.{statement_cmp}
 use Rattle.bdb_base.specs.OrderLemmas.{statement_exact}
 use Rattle.bdb_base.specs.SortedSet.{ascending}
 use Rattle.bdb_base.specs.declared.kinds.Stmt.{Stmt}
 use Rattle.bdb_base.specs.Changes.{without_statements}
 use Rattle.bdb_base.proofs.ListLemmas.{list_all_weaker, list_all-filter}
-use Rattle.bdb_base.proofs.SetLemmas.{absent_above, filter_keeps_order, is_eq_itself, members_make_set, take_drops_member}
+use Rattle.bdb_base.proofs.SetLemmas.{absent_above, filter_keeps_order, is_eq_itself, members_make_set}
 use Rattle.bdb_base.proofs.UserLemmas.{member-filter}
+use Rattle.bdb_base.proofs.UpdateLemmas.{without_keeps_order, stands_without}
 use Rattle.bdb_update.specs.Calls.{are_apart}
-use Rattle.bdb_update.proofs.ReachedLemmas.{without_keeps_order}
 
 -- ---- they stand, each once
 
@@ -37,22 +37,11 @@ taken_apart q stmts up = ascending_apart (filter q stmts) (filter_keeps_order st
 
 -- ---- the others are left
 
-without_stands : (xs gone : List Stmt) (z : Stmt) → stands (without_statements xs gone) z ≡ (not (stands gone z) && stands xs z)
-without_stands xs [] z = refl
-without_stands xs (x ∷ gone) z =
-    without_stands (without_statement xs x) gone z ∙ ap (λ b. not (stands gone z) && b) (take_drops_member statement_exact xs x z)
-    ∙ neither (is_eq (statement_cmp x z)) (stands gone z) (stands xs z)
-  where
-    neither : (a b c : Bool) → (not b && (not a && c)) ≡ (not (a || b) && c)
-    neither true true c = refl
-    neither true false c = refl
-    neither false b c = refl
-
 pub others_are_left : (q : Stmt → Bool) (stmts : List Stmt) → ascending statement_cmp stmts ≡ true → without_statements stmts (filter q stmts) ≡ filter (λ x. not (q x)) stmts
 others_are_left q stmts up =
     members_make_set statement_exact (without_statements stmts (filter q stmts)) (filter (λ x. not (q x)) stmts)
     (without_keeps_order stmts (filter q stmts) up) (filter_keeps_order statement_exact (λ x. not (q x)) stmts up)
-    (λ z. without_stands stmts (filter q stmts) z ∙ ap (λ b. not b && stands stmts z) (member-filter statement_exact q stmts z) ∙ once (stands stmts z) (q z) ∙ sym (member-filter statement_exact (λ x. not (q x)) stmts z))
+    (λ z. stands_without stmts (filter q stmts) z ∙ ap (λ b. not b && stands stmts z) (member-filter statement_exact q stmts z) ∙ once (stands stmts z) (q z) ∙ sym (member-filter statement_exact (λ x. not (q x)) stmts z))
   where
     once : (a b : Bool) → (not (a && b) && a) ≡ (a && not b)
     once true true = refl

@@ -1,13 +1,14 @@
 -- What is told of the places where tables differ is how the number of their rows changes.
-use Rattle.std.proofs.Common.{◌≡◌, ◌≢◌, ◌∙◌, ℕ, ◌+◌, ◌-◌, ◌^◌, ◌≤◌, ◌<◌, Bool, true, false, not, ◌||◌, nat_eq, cond, List, [], ◌∷◌, ◌++◌, length, filter, Option, Some, None, refl, sym, ap, arith, inl, inr}
+use Rattle.std.proofs.Common.{◌≡◌, ◌≢◌, ◌∙◌, ℕ, ◌+◌, ◌-◌, ◌^◌, ◌≤◌, ◌<◌, Bool, true, false, not, nat_eq, cond, List, [], ◌∷◌, ◌++◌, length, filter, Option, Some, None, refl, sym, ap, arith, inl, inr}
 use Rattle.std.specs.List.{AllByRecursion}
 use Rattle.std.specs.Option.{is_some}
 use Rattle.std.specs.FinMap as tables
-use Rattle.std.proofs.lemmas.Bool.{cases_Bool, and_parts, and_from, false≢true, false_from_ne_true, or_left, or_right, or_cases, cond-true, cond-false, not-true, not_from_false}
+use Rattle.std.proofs.lemmas.Bool.{cases_Bool, and_parts, and_from, false≢true, false_from_ne_true, or_left, or_right, or_cases, cond-true, cond-false, not-true, not_from_false, or_parts}
 use Rattle.std.proofs.lemmas.List.Folds.{list_any-append}
 use Rattle.bdb_base.specs.Bases.{are_distinct}
 use Rattle.bdb_base.specs.Same.{same_text}
 use Rattle.bdb_base.specs.SameLemmas.{same_text-Decides}
+use Rattle.bdb_base.proofs.BoolLemmas.{not_twice}
 use Rattle.bdb_keep.specs.Seen.{Seen}
 use Rattle.bdb_keep.specs.Tables.{Tables}
 use Rattle.bdb_tables.specs.Differences.{AreDifferences}
@@ -140,10 +141,6 @@ all_among (x ∷ xs) = (
   all_weaker (λ y. is_among y xs ≡ true) (λ y. is_among y (x ∷ xs) ≡ true) (λ y h. or_right (same_text y x) (is_among y xs) h) xs (all_among xs),
 )
 
-pub not_twice : (c : Bool) → not (not c) ≡ c
-not_twice true = refl
-not_twice false = refl
-
 -- ---- rows
 
 pub same_row : Option (List ℕ) → Option (List ℕ) → Bool
@@ -169,10 +166,6 @@ same_row_from (Some a) (Some b) e = let f : a ≡ b = cc in (same_text-Decides a
 some_there : (o : Option (List ℕ)) → o ≢ None → is_some o ≡ true
 some_there None h = absurd (h refl)
 some_there (Some x) h = refl
-
-none_there : (o : Option (List ℕ)) → is_some o ≡ false → o ≡ None
-none_there None e = refl
-none_there (Some x) e = absurd (false≢true (sym e))
 
 -- a place of the table of rows that has one has it in the tables
 row_there : (t : Tables) (q : List ℕ) → vals_at t q ≢ None → is_some (tables.get t q) ≡ true
@@ -332,17 +325,13 @@ module _ (t u : Tables) (n m : ℕ) (same : others.SameBut rows_alone t u) (a : 
         | inr d ↦ differ_not q d
         | inl d ↦
             let none : is_among q (ps ++ came) ≡ false = false_from_ne_true (is_among q (ps ++ came)) (λ e. false≢true (sym out ∙ among_passing differs q (ps ++ came) e d)) in
-            let apart = neither (is_among q ps) (is_among q came) (sym (list_any-append (same_text q) ps came) ∙ none) in
+            let apart = or_parts (is_among q ps) (is_among q came) (sym (list_any-append (same_text q) ps came) ∙ none) in
             let before : tables.get t q ≡ None = none_before q i apart.0 in
             let absent : is_among q qs ≡ false = false_from_ne_true (is_among q qs) (λ e. false≢true (sym apart.1 ∙ among_passing (has_none t) q qs e (ap (λ o. not (is_some o)) before))) in
             before ∙ sym (none_after q i absent)
       ]
     ];
   }
-    where
-      neither : (x y : Bool) → (x || y) ≡ false → (x ≡ false) × (y ≡ false)
-      neither true y e = absurd (false≢true (sym e))
-      neither false y e = (refl, e)
 
   -- those that had no row before are those that came
   pub came_is : filter (has_none t) places ≡ came

@@ -10,7 +10,7 @@ use Rattle.bdb_keep.specs.Tables.{Tables}
 use Rattle.bdb_tables.specs.declared.tab.TabError.{TabError}
 use Rattle.bdb_tables.specs.declared.tab.TabError.TheVariants as stop
 use Rattle.bdb_val.specs.Steps.{IsChanging}
-use Rattle.bdb_update.specs.Calls.{MayMeet, SomeMayMeet, IsUntouched, HasStopped, with_one}
+use Rattle.bdb_update.specs.Calls.{MayMeet, SomeMayMeet, HasStopped, with_one}
 use Rattle.bdb_update.specs.Examining.{AreSizes, IsReady, Examines}
 use Rattle.bdb_update.specs.Joining.{CountsJoined, MayJoin, SomeMayJoin, Joins}
 use Rattle.bdb_tables.specs.Stored.{Stores}
@@ -22,11 +22,9 @@ use Rattle.bdb_update.specs.declared.looking.Ready.{Ready}
 use Rattle.bdb_update.specs.declared.looking.Prospect.TheVariants.{Clashes, Stands, Fills, Fits}
 use Rattle.bdb_update.proofs.CallLemmas.{IsQuiet}
 use Rattle.bdb_update.proofs.JoinLemmas.{may_join}
+use Rattle.bdb_update.proofs.ChangingLemmas.{untouched}
 
 -- ---- nothing was written
-
-untouched : (old new : Seen) (c : Counts) → IsQuiet old new → IsUntouched old new c c
-untouched old new c q = record { kept = q.kept; writes = q.writes; counts = refl; goes_on = q.goes }
 
 pub try_stands : (old new : Seen) (c : Counts) (x : Stmt) → IsQuiet old new → Examines old.kept c x Stands → Tries old new c x (Ok None)
 try_stands old new c x q e b may = record { there = e b may; untouched = untouched old new c q }

@@ -1,6 +1,5 @@
 -- A statement's tuple gets a number, or has one.
 use Rattle.std.proofs.Common.{◌≡◌, ◌∙◌, ℕ, true, false, ◌||◌, List, refl, ap, sym, subst, inl, inr, Option, Some, None, is_some}
-use Rattle.std.specs.Option.{option_map}
 use Rattle.std.specs.FinMap as tables
 use Rattle.std.specs.Ordering.{is_eq, eq_by_cmp}
 use Rattle.std.proofs.lemmas.Bool.{cases_Bool, cond-true}
@@ -11,6 +10,7 @@ use Rattle.bdb_base.specs.SameLemmas.{same_tuple-Decides}
 use Rattle.bdb_base.specs.declared.kinds.Stmt.{Stmt}
 use Rattle.bdb_base.specs.declared.tuple.Tuple.{Tuple}
 use Rattle.bdb_base.proofs.SetLemmas.{list_any-put_in}
+use Rattle.bdb_base.proofs.OptionLemmas.{nothing_mapped}
 use Rattle.bdb_keep.specs.Tables.{Tables, bytes_cmp}
 use Rattle.bdb_key.specs.Grammar.{IsNum}
 use Rattle.bdb_key.specs.Bytes.{num_bytes}
@@ -35,13 +35,9 @@ use Rattle.bdb_update.proofs.WithinLemmas.{put_is_within, same_reach_stores}
 pub number_read : (told : List Stmt) (ts : Tuples) (t : Tables) (u : Tuple) (found : Option ℕ) → HoldsTuples told ts t → IsTupleRow u → HasAt tuple_ix_codec t u found → found ≡ ts.number u
 number_read told ts t u found h fits has = found_is tuple_ix_codec number_rows_are_one t ts.number h.numbers u fits found has
 
-no_bytes : {X : Type 0} (bytes : X → List ℕ) (o : Option X) → option_map bytes o ≡ None → o ≡ None
-no_bytes bytes None e = refl
-no_bytes bytes (Some x) e = absurd cc
-
 -- a number without a row stands for no tuple
 pub number_free : (told : List Stmt) (ts : Tuples) (t : Tables) (tid : ℕ) → HoldsTuples told ts t → IsNum tid → tables.get t (place tuple_codec tid) ≡ None → ts.tuple tid ≡ None
-number_free told ts t tid h num none = no_bytes tuple_codec.row_bytes (ts.tuple tid) (sym (h.tuples.rows tid num) ∙ none)
+number_free told ts t tid h num none = nothing_mapped tuple_codec.row_bytes (ts.tuple tid) (sym (h.tuples.rows tid num) ∙ none)
 
 -- ---- a tuple that is told already
 

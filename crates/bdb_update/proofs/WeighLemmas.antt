@@ -19,8 +19,8 @@ use Rattle.bdb_base.specs.declared.kinds.RelDef.{RelDef}
 use Rattle.bdb_base.specs.declared.kinds.Stmt.{Stmt}
 use Rattle.bdb_base.proofs.ListLemmas.{filter_kept_one, filter_dropped_one}
 use Rattle.bdb_base.proofs.SetLemmas.{filter_keeps_order}
-use Rattle.bdb_base.proofs.UpdateLemmas.{with_keeps_order}
-use Rattle.bdb_base.proofs.WorldLemmas.{valid_is_consistent}
+use Rattle.bdb_base.proofs.UpdateLemmas.{with_keeps_order, without_keeps_order}
+use Rattle.bdb_base.proofs.WorldLemmas.{valid_is_consistent, stands_is_explicit}
 use Rattle.bdb_canon.specs.declared.sizes.Counts.{Counts}
 use Rattle.bdb_keep.specs.Tables.{Tables}
 use Rattle.bdb_tables.proofs.Fitting.{belonging_may_be}
@@ -32,10 +32,9 @@ use Rattle.bdb_update.specs.Keys.{keys_of}
 use Rattle.bdb_update.specs.Reached.{HasState, SomeHasState, StandAt, at_path, lost_of, fresh_of}
 use Rattle.bdb_update.specs.Weighing.{MayWeigh, SomeMayWeigh, IsWeight, Weighs, TellsRoom, have_room}
 use Rattle.bdb_update.specs.declared.weighing.Weight.TheVariants.{Clashes, Fills, Fits}
-use Rattle.bdb_update.proofs.JudgeLemmas.{stands_is}
 use Rattle.bdb_update.proofs.NextLemmas.{MayReplace, tuples_after}
 use Rattle.bdb_update.proofs.OneStored.{explicit_state}
-use Rattle.bdb_update.proofs.ReachedLemmas.{first_at_path, reached_at, without_keeps_order}
+use Rattle.bdb_update.proofs.ReachedLemmas.{first_at_path, reached_at}
 use Rattle.bdb_update.proofs.ReplaceLemmas.{stands_belongs}
 use Rattle.bdb_update.proofs.StageLemmas.{belongs_parts}
 
@@ -72,7 +71,7 @@ stand_there : (stmts : List Stmt) (w : List ℕ) (xs : List Stmt) → AllByRecur
 stand_there stmts w [] h e = refl
 stand_there stmts w (x ∷ xs) h e =
     let k = and_parts (stands stmts x) (list_all (stands stmts) xs) e in
-    and_from (explicit stmts w x.tuple x.sign) (are_at stmts w xs) (ap (λ v. explicit stmts v x.tuple x.sign) (sym h.0) ∙ sym (stands_is stmts x) ∙ k.0) (stand_there stmts w xs h.1 k.1)
+    and_from (explicit stmts w x.tuple x.sign) (are_at stmts w xs) (ap (λ v. explicit stmts v x.tuple x.sign) (sym h.0) ∙ sym (stands_is_explicit stmts x) ∙ k.0) (stand_there stmts w xs h.1 k.1)
 
 -- where some go, the path is a state
 pub has_state : (t : Tables) (c : Counts) (w : List ℕ) (gone come : List Stmt) (b : Contents) → MayWeigh t c w gone come b → HasState t w b
@@ -89,7 +88,7 @@ has_state t c w gone come b m = by gone m.may.gone_here m.may.stand m.some
           valid = v;
           apart = ap alternates (sym h.0) ∙ p.apart;
           users = ap (list_all (is_user b.catalog.users)) (sym h.0) ∙ p.users;
-          state = ap (is_state b.stmts) (sym h.0) ∙ explicit_state b.stmts x.path x.tuple x.sign (sym (stands_is b.stmts x) ∙ s);
+          state = ap (is_state b.stmts) (sym h.0) ∙ explicit_state b.stmts x.path x.tuple x.sign (sym (stands_is_explicit b.stmts x) ∙ s);
         }
 
 pub some_state : (t : Tables) (c : Counts) (w : List ℕ) (gone come : List Stmt) → SomeMayWeigh t c w gone come → SomeHasState t w

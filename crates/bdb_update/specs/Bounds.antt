@@ -19,7 +19,7 @@ use Rattle.bdb_keep.specs.Seen.{Seen}
 use Rattle.bdb_keep.specs.Tables.{Tables}
 use Rattle.bdb_tables.specs.Differences.{AreDifferences}
 use Rattle.bdb_val.specs.Others.{is_in}
-use Rattle.bdb_worlds.specs.Bounds.{RisesWithin}
+use Rattle.bdb_worlds.specs.Bounds.{EndsWithin}
 use Rattle.bdb_update.specs.Joining.{is_of_tuples}
 use Rattle.bdb_update.specs.Tallies.{vals_at}
 
@@ -27,7 +27,7 @@ use Rattle.bdb_update.specs.Tallies.{vals_at}
 
 -- for each place at which the rows before and after differ no more than so many writes are made, and some more in all
 abbrev pub WritesWithin : ℕ → ℕ → Seen → Seen → Type 0
-WritesWithin times more old new = (ps : List (List ℕ)) → AreDifferences (tables.get old.kept) (tables.get new.kept) ps → RisesWithin (times * length ps + more) old.writes new.writes
+WritesWithin times more old new = (ps : List (List ℕ)) → AreDifferences (tables.get old.kept) (tables.get new.kept) ps → EndsWithin (times * length ps + more) old.writes new.writes
 
 -- ---- step by step
 
@@ -41,8 +41,8 @@ is_of_states q = not (is_in (λ n. is_of_tuples n || nat_eq n 11) q)
 
 -- for each such place at which the rows differ no more than so many writes are made, and some more in all
 abbrev pub StateWrites : ℕ → ℕ → Seen → Seen → Type 0
-StateWrites times more old new = (ps : List (List ℕ)) → AreDifferences (part_at is_of_states old.kept) (part_at is_of_states new.kept) ps → RisesWithin (times * length ps + more) old.writes new.writes
+StateWrites times more old new = (ps : List (List ℕ)) → AreDifferences (part_at is_of_states old.kept) (part_at is_of_states new.kept) ps → EndsWithin (times * length ps + more) old.writes new.writes
 
 -- no more writes are made than rows of worlds differ, and some more
 abbrev pub RowWrites : ℕ → Seen → Seen → Type 0
-RowWrites more old new = (ps : List (List ℕ)) → AreDifferences (vals_at old.kept) (vals_at new.kept) ps → RisesWithin (length ps + more) old.writes new.writes
+RowWrites more old new = (ps : List (List ℕ)) → AreDifferences (vals_at old.kept) (vals_at new.kept) ps → EndsWithin (length ps + more) old.writes new.writes

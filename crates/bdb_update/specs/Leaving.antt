@@ -15,7 +15,7 @@ use Rattle.bdb_update.specs.Looking.{is_own}
 use Rattle.bdb_update.specs.Parting.{MayPart}
 use Rattle.bdb_tables.specs.Stored.{Stores}
 use Rattle.bdb_update.specs.declared.leaving.Gone.{Gone}
-use Rattle.bdb_update.specs.declared.looking.Place.{Place}
+use Rattle.bdb_update.specs.declared.looking.Finding.{Finding}
 
 -- So many worlds go with a statement of a base, its tuple's number goes or not, and so many rows come and go.
 pub record IsGoneWith (b : Contents) (x : Stmt) (g : Gone) : Type 0 where
@@ -46,7 +46,7 @@ counts_less c g = record {
 }
 
 -- the number of a statement's tuple, where by what was read the statement stands
-abbrev pub standing : Stmt → Place → Option ℕ
+abbrev pub standing : Stmt → Finding → Option ℕ
 standing x p = cond (list_any (is_own x) p.rows.items) p.tid None
 
 -- a statement that stood is taken away, and these are the sizes without it

@@ -9,7 +9,7 @@ use Rattle.bdb_base.specs.States.{is_state}
 use Rattle.bdb_base.specs.declared.kinds.Stmt.{Stmt}
 use Rattle.bdb_base.specs.declared.tuple.Tuple.{Tuple}
 use Rattle.bdb_keep.specs.Tables.{Tables}
-use Rattle.bdb_val.specs.declared.stored.Stored.{Stored}
+use Rattle.bdb_val.specs.declared.stored.StoredRow.{StoredRow}
 use Rattle.bdb_tables.specs.Stored.{Stores}
 
 -- the statements at a path
@@ -43,10 +43,10 @@ pub record SomeHasState (t : Tables) (w : List ℕ) : Type 0 where
   pub has : HasState t w base
 
 -- the statement at a path that a row of its world is, if it is explicit
-abbrev pub said_of : List ℕ → Stored → List Stmt
+abbrev pub said_of : List ℕ → StoredRow → List Stmt
 said_of w r = cond r.mark.1 (record { path = w; sign = r.mark.0; tuple = r.tuple } ∷ []) []
 
-abbrev pub said_at : List ℕ → List Stored → List Stmt
+abbrev pub said_at : List ℕ → List StoredRow → List Stmt
 said_at w rows = flat_map (said_of w) rows
 
 -- whichever base tables store, these are its statements at a path that is a state

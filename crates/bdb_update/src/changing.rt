@@ -4,15 +4,14 @@ ghost use Rattle.bdb_keep.specs.Seen.{NeverFall};
 ghost use Rattle.bdb_update.specs.Calls.{Changes, SomeMayChange};
 ghost use Rattle.bdb_update.specs.Keeping.{ChangeKeeps};
 ghost use Rattle.bdb_update.specs.Steps.{ChangesThrough};
-ghost use Rattle.bdb_update.specs.Trying.{stopped_by};
 
 use crate::answer::UpdateError;
 use crate::replacing::replace;
+use crate::trying::stopped_by;
 use crate::weighing::{Weight, weigh};
 use bdb_base::{Stmt, What};
 use bdb_canon::Counts;
 use bdb_keep::Keeper;
-use bdb_tables::TabError;
 use std::alloc::Global;
 
 /// Puts statements of a path in place of others of it, in the base that the tables store, whose sizes are `counts`. `Clash`
@@ -49,23 +48,13 @@ pub fn change_statements<K: Keeper>(
         Ok(Weight::Fits) => {}
         Ok(Weight::Clashes(least)) => return Err(UpdateError::Clash(least)),
         Ok(Weight::Fills) => return Err(UpdateError::Full(What::Tuples)),
-        Err(error) => return Err(error_of(error)),
+        Err(error) => return Err(stopped_by(error)),
     }
     match replace(alloc, keeper, counts, gone, come) {
         Ok(next) => {
             *counts = next;
             Ok(())
         }
-        Err(error) => Err(error_of(error)),
-    }
-}
-
-// Why nothing is changed, where tables could not be read or written.
-fn error_of(error: TabError) -> UpdateError
-    ensures { result ≡ stopped_by error }
-{
-    match error {
-        TabError::Fault => UpdateError::Fault,
-        TabError::Memory => UpdateError::Memory,
+        Err(error) => Err(stopped_by(error)),
     }
 }

@@ -13,7 +13,7 @@ use bdb_base::{List, Sign, Tuple, Value, key_of};
 use bdb_keep::Keeper;
 use bdb_key::put_vals;
 use bdb_tables::{TabError, ValTab, put_pair, read_tuple, rows_under};
-use bdb_val::Stored;
+use bdb_val::StoredRow;
 use std::alloc::{AllocError, Global};
 
 // A row of a world: its key, of the world, a relation, the values of the relation's key and the number of a tuple; and its mark.
@@ -27,7 +27,7 @@ pub fn read_explicit<K: Keeper>(
     wid: u32,
     n: u32,
     tuple: &Tuple,
-) -> Result<Vec<Stored>, TabError>
+) -> Result<Vec<StoredRow>, TabError>
     requires running { (K.seen keeper.old).running ≡ true }
     requires grammar { InGrammar (K.seen keeper.old).kept }
     requires tuples { HaveTuples (K.seen keeper.old).kept }
@@ -69,7 +69,7 @@ fn explicit_among<K: Keeper>(
     alloc: Global,
     keeper: &mut K,
     entries: &[Row],
-) -> Result<Vec<Stored>, TabError>
+) -> Result<Vec<StoredRow>, TabError>
     requires running { (K.seen keeper.old).running ≡ true }
     requires grammar { InGrammar (K.seen keeper.old).kept }
     requires there { AllByRecursion (HasTuple (K.seen keeper.old).kept) entries.now }
@@ -91,7 +91,7 @@ fn explicit_among<K: Keeper>(
 fn push_explicit<K: Keeper>(
     alloc: Global,
     keeper: &mut K,
-    rows: &mut Vec<Stored>,
+    rows: &mut Vec<StoredRow>,
     entry: &Row,
 ) -> Result<(), TabError>
     requires running { (K.seen keeper.old).running ≡ true }
@@ -108,7 +108,7 @@ fn push_explicit<K: Keeper>(
         Ok(tuple) => tuple,
         Err(error) => return Err(error),
     };
-    let row = Stored {
+    let row = StoredRow {
         tid: entry.0.3,
         tuple,
         mark: entry.1,

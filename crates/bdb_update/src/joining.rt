@@ -16,14 +16,14 @@ ghost use Rattle.bdb_update.specs.Numbering.{HoldsSomeTuples, IsLeastNumber, Tak
 ghost use Rattle.bdb_tables.specs.Stored.{SameBut};
 ghost use Rattle.bdb_val.specs.Others as others;
 ghost use Rattle.bdb_val.specs.Steps.{IsChanging, counted};
-ghost use Rattle.bdb_worlds.specs.Bounds.{RisesWithin};
+ghost use Rattle.bdb_worlds.specs.Bounds.{EndsWithin};
 
 use crate::filling::{both, fill_worlds};
-use crate::keys::{row_key, table_error};
+use crate::keys::row_key;
 use bdb_base::{Sign, Stmt, Tuple, Value, key_of};
 use bdb_keep::Keeper;
 use bdb_key::put_mark;
-use bdb_tables::{Tab, TabError, TupleIx, TupleTab, ValTab, first_gap, next, put};
+use bdb_tables::{Tab, TabError, TupleIx, TupleTab, ValTab, first_gap, next, put, table_error};
 use bdb_val::{Settled, settle_group};
 use bdb_worlds::add_states;
 use std::alloc::Global;
@@ -102,7 +102,7 @@ pub fn number_tuple<K: Keeper>(
     ensures least { OnOk result
         (TakesLeast (K.seen keeper.old).kept (K.seen keeper.new).kept stmt.now.tuple) }
     ensures writes { OnOk result
-        (RisesWithin 2 (K.seen keeper.old).writes (K.seen keeper.new).writes) }
+        (EndsWithin 2 (K.seen keeper.old).writes (K.seen keeper.new).writes) }
     ensures others { OnOk result
         (others.SameBut is_of_tuples (K.seen keeper.old).kept (K.seen keeper.new).kept) }
     ensures changing { IsChanging (K.seen keeper.old) (K.seen keeper.new) result TabError.Fault }

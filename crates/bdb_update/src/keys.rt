@@ -10,7 +10,7 @@ ghost use Rattle.bdb_tables.specs.Reading.{OnlyReads};
 ghost use Rattle.bdb_update.specs.Keys.{AreRelations};
 
 use bdb_base::{List, RelDef, Sign, Tuple, Value, clash, key_length, same_key};
-use bdb_keep::{KeepError, Keeper};
+use bdb_keep::Keeper;
 use bdb_tables::{RelTab, TabError, get, put_val_key, stored_key_length};
 use std::alloc::{AllocError, Global};
 
@@ -18,7 +18,7 @@ use std::alloc::{AllocError, Global};
 pub const KEY_ROOM: usize = 64;
 
 /// The length of the key of a tuple's relation, where tables have its row. One read.
-pub fn key_length_of<K: Keeper>(
+pub fn read_key_length<K: Keeper>(
     alloc: Global,
     keeper: &mut K,
     tuple: &Tuple,
@@ -92,14 +92,4 @@ pub fn row_key(
     let mut bytes = Vec::with_capacity(alloc, KEY_ROOM)?;
     put_val_key(&mut bytes, wid, rel, key, tid)?;
     Ok(bytes)
-}
-
-/// A keeper's error as a table's.
-pub fn table_error(error: KeepError) -> TabError
-    ensures { result ≡ TabError.Fault → error ≡ KeepError.Fault }
-{
-    match error {
-        KeepError::Fault => TabError::Fault,
-        KeepError::Memory => TabError::Memory,
-    }
 }

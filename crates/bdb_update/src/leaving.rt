@@ -14,7 +14,7 @@ ghost use Rattle.bdb_update.specs.Parting.{Leaves, SomeMayPart};
 ghost use Rattle.bdb_val.specs.Steps.{IsChanging, counted};
 
 use crate::filling::both;
-use crate::looking::{Place, has_own, look};
+use crate::looking::{Finding, has_own, look};
 use crate::parting::{drop_number, drop_worlds, part_statement};
 use bdb_base::Stmt;
 use bdb_canon::Counts;
@@ -47,26 +47,26 @@ pub fn try_drop<K: Keeper>(
         (K.seen keeper.new)) }
     ensures counts { NeverFall (K.seen keeper.old) (K.seen keeper.new) }
 {
-    let place = match look(alloc, keeper, stmt) {
-        Ok(place) => place,
+    let finding = match look(alloc, keeper, stmt) {
+        Ok(finding) => finding,
         Err(error) => return Err(error),
     };
-    let tid = match number_if_stands(stmt, &place) {
+    let tid = match number_if_stands(stmt, &finding) {
         Some(tid) => tid,
         None => return Ok(None),
     };
-    match leave(alloc, keeper, stmt, place.key_len, place.wid, tid) {
+    match leave(alloc, keeper, stmt, finding.key_len, finding.wid, tid) {
         Ok(gone) => Ok(Some(counts_less(counts, gone))),
         Err(error) => Err(error),
     }
 }
 
 // The number of a statement's tuple, where by what was read the statement stands.
-fn number_if_stands(stmt: &Stmt, place: &Place) -> Option<u32>
-    ensures { result ≡ standing stmt.now place.now }
+fn number_if_stands(stmt: &Stmt, finding: &Finding) -> Option<u32>
+    ensures { result ≡ standing stmt.now finding.now }
 {
-    if has_own(stmt, &place.rows) {
-        return place.tid;
+    if has_own(stmt, &finding.rows) {
+        return finding.tid;
     }
     None
 }

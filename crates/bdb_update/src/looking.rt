@@ -7,20 +7,20 @@ ghost use Rattle.bdb_keep.specs.Calls.{IsRead};
 ghost use Rattle.bdb_tables.specs.Grammar.{InGrammar};
 ghost use Rattle.bdb_update.specs.Calls.{SomeMayMeet, size_passed};
 ghost use Rattle.bdb_update.specs.Examining.{Examines};
-ghost use Rattle.bdb_update.specs.Looking.{AreRowsIf, IsPlace, IsSmall, counts_with, first_of, is_clashing, is_own, joined_by, judged, least_row, state_of};
+ghost use Rattle.bdb_update.specs.Looking.{AreRowsIf, IsFinding, IsSmall, counts_with, first_of, is_clashing, is_own, joined_by, judged, least_row, state_of};
 ghost use Rattle.bdb_val.specs.Reads.{HaveTuples};
 ghost use Rattle.bdb_worlds.specs.Holding.{HoldSome};
 ghost use Rattle.bdb_base.specs.Alternation.{alternates};
 
 use crate::groups::read_explicit;
-use crate::keys::key_length_of;
+use crate::keys::read_key_length;
 use crate::numbers::number_of;
 use bdb_base::limits::{MOST_STATEMENTS, MOST_TUPLES, MOST_WORLDS};
 use bdb_base::{Exact, Stmt, Tuple, What, clash, cmp_tuple, same_tuple};
 use bdb_canon::Counts;
 use bdb_keep::Keeper;
 use bdb_tables::TabError;
-use bdb_val::Stored;
+use bdb_val::StoredRow;
 use bdb_worlds::longest_state;
 use std::alloc::{AllocError, Global};
 
@@ -28,11 +28,11 @@ use std::alloc::{AllocError, Global};
 /// key of its tuple's relation, the explicit rows of this relation and the tuple's key there, where the whole path is a
 /// state, and the number of its tuple, if it has one.
 #[derive(Drop)]
-pub struct Place {
+pub struct Finding {
     pub len: usize,
     pub wid: u32,
     pub key_len: u32,
-    pub rows: Vec<Stored>,
+    pub rows: Vec<StoredRow>,
     pub tid: Option<u32>,
 }
 
@@ -60,14 +60,14 @@ pub struct Ready {
 }
 
 /// Reads what there is to know of a statement.
-pub fn look<K: Keeper>(alloc: Global, keeper: &mut K, stmt: &Stmt) -> Result<Place, TabError>
+pub fn look<K: Keeper>(alloc: Global, keeper: &mut K, stmt: &Stmt) -> Result<Finding, TabError>
     requires running { (K.seen keeper.old).running ≡ true }
     requires grammar { InGrammar (K.seen keeper.old).kept }
     requires tuples { HaveTuples (K.seen keeper.old).kept }
     requires states { HoldSome (K.seen keeper.old).kept stmt.now.path }
     requires apart { alternates stmt.now.path ≡ true }
     requires tuple { MayBeTuple stmt.now.tuple }
-    ensures place { IfOk result (IsPlace (K.seen keeper.old).kept stmt.now) }
+    ensures finding { IfOk result (IsFinding (K.seen keeper.old).kept stmt.now) }
     ensures read { IsRead (K.seen keeper.old) (K.seen keeper.new) result TabError.Fault }
 {
     let path = stmt.path.as_slice();
@@ -75,7 +75,7 @@ pub fn look<K: Keeper>(alloc: Global, keeper: &mut K, stmt: &Stmt) -> Result<Pla
         Ok(found) => found,
         Err(error) => return Err(error),
     };
-    let key_len = match key_length_of(alloc, keeper, &stmt.tuple) {
+    let key_len = match read_key_length(alloc, keeper, &stmt.tuple) {
         Ok(n) => n,
         Err(error) => return Err(error),
     };
@@ -84,7 +84,7 @@ pub fn look<K: Keeper>(alloc: Global, keeper: &mut K, stmt: &Stmt) -> Result<Pla
         Err(error) => return Err(error),
     };
     match number_of(alloc, keeper, &stmt.tuple) {
-        Ok(tid) => Ok(Place {
+        Ok(tid) => Ok(Finding {
             len,
             wid,
             key_len,
@@ -104,7 +104,7 @@ fn read_rows<K: Keeper>(
     asked: bool,
     n: u32,
     tuple: &Tuple,
-) -> Result<Vec<Stored>, TabError>
+) -> Result<Vec<StoredRow>, TabError>
     requires running { (K.seen keeper.old).running ≡ true }
     requires grammar { InGrammar (K.seen keeper.old).kept }
     requires tuples { HaveTuples (K.seen keeper.old).kept }
@@ -134,11 +134,11 @@ pub fn examine<K: Keeper>(
     ensures examined { IfOk result (Examines (K.seen keeper.old).kept counts.now stmt.now) }
     ensures read { IsRead (K.seen keeper.old) (K.seen keeper.new) result TabError.Fault }
 {
-    let place = match look(alloc, keeper, stmt) {
-        Ok(place) => place,
+    let finding = match look(alloc, keeper, stmt) {
+        Ok(finding) => finding,
         Err(error) => return Err(error),
     };
-    match judge(alloc, stmt, &place, counts) {
+    match judge(alloc, stmt, &finding, counts) {
         Ok(verdict) => Ok(verdict),
         Err(_) => {
             keeper.undo();
@@ -148,11 +148,16 @@ pub fn examine<K: Keeper>(
 }
 
 // What is said of a statement by what was read, and by the sizes of the base.
-fn judge(alloc: Global, stmt: &Stmt, place: &Place, counts: &Counts) -> Result<Prospect, AllocError>
-    requires { IsSmall stmt.now place.now counts.now }
-    ensures { IfOk result (λ verdict. verdict ≡ judged stmt.now place.now counts.now) }
+fn judge(
+    alloc: Global,
+    stmt: &Stmt,
+    finding: &Finding,
+    counts: &Counts,
+) -> Result<Prospect, AllocError>
+    requires { IsSmall stmt.now finding.now counts.now }
+    ensures { IfOk result (λ verdict. verdict ≡ judged stmt.now finding.now counts.now) }
 {
-    match least_row(place.key_len, stmt, &place.rows) {
+    match least_row(finding.key_len, stmt, &finding.rows) {
         Some(row) => {
             let path = stmt.path.try_clone(alloc)?;
             let tuple = row.tuple.try_clone(alloc)?;
@@ -162,44 +167,44 @@ fn judge(alloc: Global, stmt: &Stmt, place: &Place, counts: &Counts) -> Result<P
                 tuple,
             }))
         }
-        None => Ok(join_prospect(stmt, place, counts)),
+        None => Ok(join_prospect(stmt, finding, counts)),
     }
 }
 
 // What is said of a statement with which no row clashes.
-fn join_prospect(stmt: &Stmt, place: &Place, counts: &Counts) -> Prospect
-    requires { IsSmall stmt.now place.now counts.now }
-    ensures { result ≡ joined_by stmt.now place.now counts.now
-        (list_any (is_own stmt.now) place.now.rows.items) }
+fn join_prospect(stmt: &Stmt, finding: &Finding, counts: &Counts) -> Prospect
+    requires { IsSmall stmt.now finding.now counts.now }
+    ensures { result ≡ joined_by stmt.now finding.now counts.now
+        (list_any (is_own stmt.now) finding.now.rows.items) }
 {
-    if has_own(stmt, &place.rows) {
+    if has_own(stmt, &finding.rows) {
         return Prospect::Stands;
     }
-    let next = counts_with(stmt, place, counts);
+    let next = counts_with(stmt, finding, counts);
     match size_passed(&next) {
         Some(what) => Prospect::Fills(what),
         None => Prospect::Fits(Ready {
-            wid: state_of(stmt, place),
-            tid: place.tid,
-            key_len: place.key_len,
+            wid: state_of(stmt, finding),
+            tid: finding.tid,
+            key_len: finding.key_len,
             next,
         }),
     }
 }
 
 // The number of a statement's path, where the whole path is a state.
-fn state_of(stmt: &Stmt, place: &Place) -> Option<u32>
-    ensures { result ≡ state_of stmt.now place.now }
+fn state_of(stmt: &Stmt, finding: &Finding) -> Option<u32>
+    ensures { result ≡ state_of stmt.now finding.now }
 {
-    if place.len == stmt.path.as_slice().len() {
-        Some(place.wid)
+    if finding.len == stmt.path.as_slice().len() {
+        Some(finding.wid)
     } else {
         None
     }
 }
 
 // The row whose tuple comes first among those that clash with a statement, where its relation has keys of the length `n`.
-fn least_row<'a>(n: u32, stmt: &Stmt, rows: &'a [Stored]) -> Option<&'a Stored>
+fn least_row<'a>(n: u32, stmt: &Stmt, rows: &'a [StoredRow]) -> Option<&'a StoredRow>
     ensures { option_copied result ≡ least_row (λ _. n) stmt.now rows.now }
 {
     match rows {
@@ -215,7 +220,7 @@ fn least_row<'a>(n: u32, stmt: &Stmt, rows: &'a [Stored]) -> Option<&'a Stored>
 }
 
 // Of a row and another, if there is one, that whose tuple comes first.
-fn first_of<'a>(row: &'a Stored, other: Option<&'a Stored>) -> &'a Stored
+fn first_of<'a>(row: &'a StoredRow, other: Option<&'a StoredRow>) -> &'a StoredRow
     ensures { result.now ≡ first_of row.now (option_copied other.entry) }
 {
     match other {
@@ -231,33 +236,33 @@ fn first_of<'a>(row: &'a Stored, other: Option<&'a Stored>) -> &'a Stored
 }
 
 // Whether a row is explicit and clashes with a statement, where its relation has keys of the length `n`.
-fn is_clashing(n: u32, stmt: &Stmt, row: &Stored) -> bool
+fn is_clashing(n: u32, stmt: &Stmt, row: &StoredRow) -> bool
     ensures { result ≡ is_clashing (λ _. n) stmt.now row.now }
 {
     row.mark.1 && clash(n, &stmt.tuple, stmt.sign, &row.tuple, row.mark.0)
 }
 
 /// Whether a statement has a row.
-pub fn has_own(stmt: &Stmt, rows: &[Stored]) -> bool
+pub fn has_own(stmt: &Stmt, rows: &[StoredRow]) -> bool
     ensures { result ≡ list_any (is_own stmt.now) rows.now }
 {
     rows.iter().any(|row| is_own(stmt, row))
 }
 
 // Whether a row is explicit, and that of a statement.
-fn is_own(stmt: &Stmt, row: &Stored) -> bool
+fn is_own(stmt: &Stmt, row: &StoredRow) -> bool
     ensures { result ≡ is_own stmt.now row.now }
 {
     row.mark.1 && same_tuple(&row.tuple, &stmt.tuple) && row.mark.0 == stmt.sign
 }
 
 // The sizes with one statement more, but for the rows.
-fn counts_with(stmt: &Stmt, place: &Place, counts: &Counts) -> Counts
-    requires { IsSmall stmt.now place.now counts.now }
-    ensures { result ≡ counts_with stmt.now place.now counts.now }
+fn counts_with(stmt: &Stmt, finding: &Finding, counts: &Counts) -> Counts
+    requires { IsSmall stmt.now finding.now counts.now }
+    ensures { result ≡ counts_with stmt.now finding.now counts.now }
 {
-    let more = (stmt.path.as_slice().len() - place.len) as u32;
-    let tuples = if place.tid.is_some() { 0 } else { 1 };
+    let more = (stmt.path.as_slice().len() - finding.len) as u32;
+    let tuples = if finding.tid.is_some() { 0 } else { 1 };
     Counts {
         worlds: counts.worlds + more,
         tuples: counts.tuples + tuples,

@@ -9,11 +9,11 @@ ghost use Rattle.bdb_tables.specs.Codec.{HasAt, IsRowOf};
 ghost use Rattle.bdb_tables.specs.Grammar.{InGrammar};
 ghost use Rattle.bdb_tables.specs.InUse.{tuple_ix_codec};
 
-use crate::keys::{KEY_ROOM, table_error};
+use crate::keys::KEY_ROOM;
 use bdb_base::Tuple;
 use bdb_keep::Keeper;
 use bdb_key::only_num;
-use bdb_tables::{Tab, TabError, TupleIx};
+use bdb_tables::{Tab, TabError, TupleIx, table_error};
 use std::alloc::{AllocError, Global};
 
 /// The number of a tuple, if it has one. Its bytes tell that its numbers and integers are of the sizes of their types. One

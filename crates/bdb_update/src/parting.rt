@@ -16,15 +16,15 @@ ghost use Rattle.bdb_tables.specs.Stored.{SameBut};
 ghost use Rattle.bdb_val.specs.Others as others;
 ghost use Rattle.bdb_val.specs.Reads.{HaveTuples};
 ghost use Rattle.bdb_val.specs.Steps.{IsChanging};
-ghost use Rattle.bdb_worlds.specs.Bounds.{RisesWithin};
+ghost use Rattle.bdb_worlds.specs.Bounds.{EndsWithin};
 
 use crate::filling::both;
 use crate::joining::rel_of;
-use crate::keys::{row_key, table_error};
+use crate::keys::row_key;
 use crate::reading::is_told;
 use bdb_base::{Stmt, Tuple, Value, key_of};
 use bdb_keep::Keeper;
-use bdb_tables::{Tab, TabError, TupleIx, TupleTab, ValTab, drop_row};
+use bdb_tables::{Tab, TabError, TupleIx, TupleTab, ValTab, drop_row, table_error};
 use bdb_val::{Settled, clear_world, settle_group};
 use bdb_worlds::drop_states;
 use std::alloc::Global;
@@ -177,7 +177,7 @@ pub fn drop_number<K: Keeper>(
     ensures stood { OnOk result (KeepsTuples (K.seen keeper.new).kept (K.seen keeper.old).kept) }
     ensures tells { IfOk result (TellsNumber (K.seen keeper.old).kept stmt.now) }
     ensures writes { OnOk result
-        (RisesWithin 2 (K.seen keeper.old).writes (K.seen keeper.new).writes) }
+        (EndsWithin 2 (K.seen keeper.old).writes (K.seen keeper.new).writes) }
     ensures others { OnOk result
         (others.SameBut is_of_tuples (K.seen keeper.old).kept (K.seen keeper.new).kept) }
     ensures changing { IsChanging (K.seen keeper.old) (K.seen keeper.new) result TabError.Fault }

@@ -9,7 +9,7 @@ ghost use Rattle.bdb_update.specs.Reached.{SomeHasState, StandAt, said_at, said_
 use bdb_base::{Exact, List, Path, Stmt, put, put_copy, take};
 use bdb_keep::Keeper;
 use bdb_tables::TabError;
-use bdb_val::{Stored, read_world};
+use bdb_val::{StoredRow, read_world};
 use bdb_worlds::longest_state;
 use std::alloc::{AllocError, Global};
 
@@ -43,7 +43,7 @@ pub fn read_statements<K: Keeper>(
 }
 
 // The statements that the explicit rows of a path's world are, in order.
-fn stated_at(alloc: Global, path: &Path, rows: Vec<Stored>) -> Result<List<Stmt>, AllocError>
+fn stated_at(alloc: Global, path: &Path, rows: Vec<StoredRow>) -> Result<List<Stmt>, AllocError>
     ensures stated { IfOk result
         (λ stmts. stmts ≡ with_statements [] (said_at path.now rows.items)) }
     ensures sorted { IfOk result (λ stmts. ascending statement_cmp stmts ≡ true) }
@@ -60,7 +60,7 @@ fn put_said(
     alloc: Global,
     stmts: &mut List<Stmt>,
     path: &Path,
-    row: Stored,
+    row: StoredRow,
 ) -> Result<(), AllocError>
     requires { ascending statement_cmp stmts.old ≡ true }
     ensures { OnOk result (stmts.new ≡ with_statements stmts.old (said_of path.now row)) }

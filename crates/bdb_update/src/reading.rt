@@ -4,9 +4,8 @@ ghost use Rattle.bdb_keep.specs.Calls.{IsRead};
 ghost use Rattle.bdb_keep.specs.Marked.{IsMarkedCount};
 ghost use Rattle.bdb_update.specs.Reads.{TellsTold};
 
-use crate::keys::table_error;
 use bdb_keep::{Keeper, KeyEnd};
-use bdb_tables::{Tab, TabError, ValTab};
+use bdb_tables::{Tab, TabError, ValTab, table_error};
 
 /// Whether a statement of the stored base has the tuple of a number: whether some world has an explicit row of it. One read,
 /// however many worlds there are.

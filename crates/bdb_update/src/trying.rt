@@ -50,8 +50,8 @@ pub fn try_add<K: Keeper>(
     }
 }
 
-// Why nothing is changed, where tables could not be read or written.
-fn stopped_by(error: TabError) -> UpdateError
+/// Why nothing is changed, where tables could not be read or written.
+pub fn stopped_by(error: TabError) -> UpdateError
     ensures { result ≡ stopped_by error }
 {
     match error {

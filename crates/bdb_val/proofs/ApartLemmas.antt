@@ -1,11 +1,11 @@
 -- Where no number stands twice among rows, none is changed twice.
 use Rattle.std.proofs.Common.{◌≡◌, ◌∙◌, ℕ, Bool, true, false, nat_eq, List, [], ◌∷◌, ◌++◌, cond, inl, inr, refl, ap, sym, is_some}
 use Rattle.std.specs.List.{list_any, flat_map}
-use Rattle.std.proofs.lemmas.Bool.{false≢true, cases_Bool, or_cases, or_left, or_right, or_from, or_parts, false_from_ne_true, cond-true, cond-false, eqb-true, eq-eqb}
+use Rattle.std.proofs.lemmas.Bool.{false≢true, cases_Bool, or_cases, or_left, or_right, or_from, or_parts, false_from_ne_true, cond-true, cond-false, eqb-true, eq-eqb, true_from_ne_false}
 use Rattle.std.proofs.lemmas.List.Folds.{list_any-append}
 use Rattle.bdb_val.specs.Settling.{RowChange, mark_in, next_mark, same_mark, change_at, has_mark, fresh_change, are_apart, are_changes_apart}
 use Rattle.bdb_val.specs.Laws.{SettlingIsApart}
-use Rattle.bdb_val.specs.declared.stored.Stored.{Stored}
+use Rattle.bdb_val.specs.declared.stored.StoredRow.{StoredRow}
 use Rattle.bdb_val.proofs.SettlingLemmas.{mark_is_some}
 
 -- a number is changed
@@ -13,12 +13,12 @@ abbrev changed : List RowChange → ℕ → Bool
 changed cs tid = list_any (λ y. nat_eq y.0 tid) cs
 
 -- a function gives changes of a row's own number, one at most, and none where a test holds
-record Gives (f : Stored → List RowChange) (skips : ℕ → Bool) : Type 0 where
-  own : (x : Stored) (tid : ℕ) → changed (f x) tid ≡ true → nat_eq x.tid tid ≡ true
-  once : (x : Stored) → are_changes_apart (f x) ≡ true
-  skipped : (x : Stored) → skips x.tid ≡ true → f x ≡ []
+record Gives (f : StoredRow → List RowChange) (skips : ℕ → Bool) : Type 0 where
+  own : (x : StoredRow) (tid : ℕ) → changed (f x) tid ≡ true → nat_eq x.tid tid ≡ true
+  once : (x : StoredRow) → are_changes_apart (f x) ≡ true
+  skipped : (x : StoredRow) → skips x.tid ≡ true → f x ≡ []
 
-one_change : (b : Bool) (x : Stored) (c : RowChange) → c.0 ≡ x.tid → (tid : ℕ) → changed (cond b [] (c ∷ [])) tid ≡ true → nat_eq x.tid tid ≡ true
+one_change : (b : Bool) (x : StoredRow) (c : RowChange) → c.0 ≡ x.tid → (tid : ℕ) → changed (cond b [] (c ∷ [])) tid ≡ true → nat_eq x.tid tid ≡ true
 one_change true x c k tid e = absurd (false≢true e)
 one_change false x c k tid e = elim (or_cases (nat_eq c.0 tid) false e) [ inl a ↦ ap (λ i. nat_eq i tid) (sym k) ∙ a | inr a ↦ absurd (false≢true a) ]
 
@@ -26,14 +26,14 @@ once_change : (b : Bool) (c : RowChange) → are_changes_apart (cond b [] (c ∷
 once_change true c = refl
 once_change false c = refl
 
-changes_given : (keys : ℕ → ℕ) (stored own from : List Stored) → Gives (change_at keys stored own from) (λ _. false)
+changes_given : (keys : ℕ → ℕ) (stored own from : List StoredRow) → Gives (change_at keys stored own from) (λ _. false)
 changes_given keys stored own from = record {
   own = λ x tid e. one_change (same_mark (mark_in stored x.tid) (next_mark keys own from x.tid x.tuple)) x (x.tid, x.tuple, next_mark keys own from x.tid x.tuple) refl tid e;
   once = λ x. once_change (same_mark (mark_in stored x.tid) (next_mark keys own from x.tid x.tuple)) (x.tid, x.tuple, next_mark keys own from x.tid x.tuple);
   skipped = λ x e. absurd (false≢true e);
 }
 
-fresh_given : (keys : ℕ → ℕ) (stored own from before : List Stored) → Gives (fresh_change keys stored own from before) (has_mark stored before)
+fresh_given : (keys : ℕ → ℕ) (stored own from before : List StoredRow) → Gives (fresh_change keys stored own from before) (has_mark stored before)
 fresh_given keys stored own from before = record {
   own = λ x tid e. elim (cases_Bool (has_mark stored before x.tid)) [
     | inl a ↦ absurd (false≢true (ap (λ cs. changed cs tid) (sym (cond-true (has_mark stored before x.tid) [] (change_at keys stored own from x) a)) ∙ e))
@@ -47,7 +47,7 @@ fresh_given keys stored own from before = record {
 }
 
 -- changes of rows have the rows' numbers
-changed_in : (f : Stored → List RowChange) (skips : ℕ → Bool) → Gives f skips → (xs : List Stored) (tid : ℕ) → list_any (λ y. nat_eq y.tid tid) xs ≡ false
+changed_in : (f : StoredRow → List RowChange) (skips : ℕ → Bool) → Gives f skips → (xs : List StoredRow) (tid : ℕ) → list_any (λ y. nat_eq y.tid tid) xs ≡ false
     → changed (flat_map f xs) tid ≡ false
 changed_in f skips g [] tid e = refl
 changed_in f skips g (x ∷ xs) tid e =
@@ -58,7 +58,7 @@ changed_in f skips g (x ∷ xs) tid e =
     (changed_in f skips g xs tid p.1)
 
 -- a number that is skipped isn't changed
-not_changed : (f : Stored → List RowChange) (skips : ℕ → Bool) → Gives f skips → (xs : List Stored) (tid : ℕ) → skips tid ≡ true → changed (flat_map f xs) tid ≡ false
+not_changed : (f : StoredRow → List RowChange) (skips : ℕ → Bool) → Gives f skips → (xs : List StoredRow) (tid : ℕ) → skips tid ≡ true → changed (flat_map f xs) tid ≡ false
 not_changed f skips g [] tid e = refl
 not_changed f skips g (x ∷ xs) tid e =
     list_any-append (λ y. nat_eq y.0 tid) (f x) (flat_map f xs)
@@ -82,7 +82,7 @@ apart_append (x ∷ xs) ys a b h =
           ∙ apart_append xs ys rest b (λ tid k. h tid (or_right (nat_eq x.0 tid) (changed xs tid) k))
     ]
 
-changes_apart : (f : Stored → List RowChange) (skips : ℕ → Bool) → Gives f skips → (xs : List Stored) → are_apart xs ≡ true → are_changes_apart (flat_map f xs) ≡ true
+changes_apart : (f : StoredRow → List RowChange) (skips : ℕ → Bool) → Gives f skips → (xs : List StoredRow) → are_apart xs ≡ true → are_changes_apart (flat_map f xs) ≡ true
 changes_apart f skips g [] a = refl
 changes_apart f skips g (x ∷ xs) a = elim (cases_Bool (list_any (λ y. nat_eq y.tid x.tid) xs)) [
   | inl e ↦ absurd (false≢true (sym (cond-true (list_any (λ y. nat_eq y.tid x.tid) xs) false (are_apart xs) e) ∙ a))
@@ -122,15 +122,7 @@ settling_is_apart keys stored own from a b c =
     g3 = fresh_given keys stored own from own
 
     has_one : (tid : ℕ) → changed one tid ≡ true → is_some (mark_in stored tid) ≡ true
-    has_one tid k = mark_is_some stored tid ∙ true_from (list_any (λ y. nat_eq y.tid tid) stored) (λ e. false≢true (sym (changed_in (change_at keys stored own from) (λ _. false) g1 stored tid e) ∙ k))
-      where
-        true_from : (b : Bool) → (b ≡ false → ⊥) → b ≡ true
-        true_from true h = refl
-        true_from false h = absurd (h refl)
+    has_one tid k = mark_is_some stored tid ∙ true_from_ne_false (list_any (λ y. nat_eq y.tid tid) stored) (λ e. false≢true (sym (changed_in (change_at keys stored own from) (λ _. false) g1 stored tid e) ∙ k))
 
     has_two : (tid : ℕ) → changed two tid ≡ true → is_some (mark_in own tid) ≡ true
-    has_two tid k = mark_is_some own tid ∙ true_from (list_any (λ y. nat_eq y.tid tid) own) (λ e. false≢true (sym (changed_in (fresh_change keys stored own from []) (has_mark stored []) g2 own tid e) ∙ k))
-      where
-        true_from : (b : Bool) → (b ≡ false → ⊥) → b ≡ true
-        true_from true h = refl
-        true_from false h = absurd (h refl)
+    has_two tid k = mark_is_some own tid ∙ true_from_ne_false (list_any (λ y. nat_eq y.tid tid) own) (λ e. false≢true (sym (changed_in (fresh_change keys stored own from []) (has_mark stored []) g2 own tid e) ∙ k))

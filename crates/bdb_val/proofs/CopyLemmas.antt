@@ -8,6 +8,7 @@ use Rattle.std.proofs.lemmas.Bool.{true≢false, false≢true, cases_Bool, and_p
 use Rattle.bdb_base.specs.Segments.{is_prefix}
 use Rattle.bdb_base.specs.SortedSet.{ascending}
 use Rattle.bdb_keep.specs.Tables.{Tables, bytes_cmp}
+use Rattle.bdb_keep.proofs.RowsLemmas.{same_place}
 use Rattle.bdb_key.specs.Bytes.{num_bytes, vals_bytes}
 use Rattle.bdb_key.specs.Grammar.{IsNum}
 use Rattle.bdb_key.specs.Rows.{mark_bytes}
@@ -15,13 +16,13 @@ use Rattle.bdb_key.proofs.Forms.{tied}
 use Rattle.bdb_tables.specs.Codec.{place}
 use Rattle.bdb_tables.specs.Copies.{copied, removed}
 use Rattle.bdb_tables.specs.InUse.{ValKey, IsValKey, val_bytes, val_codec}
-use Rattle.bdb_tables.specs.InUseLaws.{vals_are_one, vals_in_order, mark_rows_are_one}
+use Rattle.bdb_tables.specs.InUseLaws.{vals_are_one, vals_in_order}
 use Rattle.bdb_tables.specs.Marks.{Mark}
 use Rattle.bdb_tables.specs.Spans.{AreUnder, IsUnder, entry_cmp}
 use Rattle.bdb_tables.specs.Writes.{IsChange, Gives, with_changes, with_row_at, with_rows_at}
-use Rattle.bdb_tables.proofs.Held.{same_place, some_same, none_some}
 use Rattle.bdb_tables.proofs.WriteLemmas.{changes_give, gives_same}
 use Rattle.bdb_tables.proofs.ListLemmas.{prefix_append}
+use Rattle.bdb_tables.proofs.MarkLemmas.{mark_is}
 use Rattle.bdb_val.specs.Reads.{HaveTuples, world_prefix}
 use Rattle.bdb_val.specs.WorldCopies.{inherited_or, key_in, rows_copied, rows_cleared, CopiesWorld, ClearsWorld}
 use Rattle.bdb_val.proofs.ReadLemmas.{rows_at, world_of_key}
@@ -90,14 +91,10 @@ module _ (t : Tables) (f : ValKey → Option Mark) (h : Gives val_codec t f) (wi
   are_rows : AllByRecursion IsRow es
   are_rows = go es u.each (each_found es u.sorted)
     where
-      one : (o : Option Mark) (m : Mark) → option_map mark_bytes o ≡ Some (mark_bytes m) → o ≡ Some m
-      one None m e = absurd (none_some (mark_bytes m) e)
-      one (Some x) m e = ap Some (mark_rows_are_one x m tt tt (some_same (mark_bytes x) (mark_bytes m) e))
-
       go : (ds : List (ValKey × Mark)) → AllByRecursion (IsUnder val_codec (world_prefix wid)) ds → AllByRecursion (IsFoundIn es) ds → AllByRecursion IsRow ds
       go [] a b = tt
       go (d ∷ ds) a b = (
-        (a.0.key, world_of_key wid n d.0 a.0.key a.0.begins, one (f d.0) d.1 (sym (h.rows d.0 a.0.key) ∙ u.found (val_bytes d.0) a.0.begins ∙ b.0)),
+        (a.0.key, world_of_key wid n d.0 a.0.key a.0.begins, mark_is (f d.0) d.1 (sym (h.rows d.0 a.0.key) ∙ u.found (val_bytes d.0) a.0.begins ∙ b.0)),
         go ds a.1 b.1,
       )
 

@@ -4,12 +4,13 @@ use Rattle.std.specs.List.{list_any, list_all, AllByRecursion}
 use Rattle.std.specs.Option.{option_map}
 use Rattle.std.specs.Ordering.{is_lt, is_eq, eq_by_cmp}
 use Rattle.std.specs.FinMap as tables
-use Rattle.std.proofs.lemmas.Bool.{false≢true, cases_Bool, and_parts, and_from, or_from, not_from_false, false_from_ne_true, cond-true}
+use Rattle.std.proofs.lemmas.Bool.{false≢true, cases_Bool, and_parts, and_from, or_from, not_from_false, false_from_ne_true, cond-true, or_right}
 use Rattle.bdb_base.specs.Bases.{are_distinct}
 use Rattle.bdb_base.specs.Causes.{Rises}
 use Rattle.bdb_base.specs.Same.{same_text}
 use Rattle.bdb_base.specs.SameLemmas.{same_text-Decides}
 use Rattle.bdb_base.specs.SortedSet.{ascending}
+use Rattle.bdb_base.proofs.ListLemmas.{length_map}
 use Rattle.bdb_keep.specs.Seen.{Seen}
 use Rattle.bdb_keep.specs.Tables.{Tables, bytes_cmp}
 use Rattle.bdb_key.specs.Grammar.{IsNum}
@@ -32,7 +33,7 @@ use Rattle.bdb_val.specs.WorldCopies.{key_in, IsBare, TellsCopy}
 use Rattle.bdb_val.proofs.CopyLemmas.{IsFoundIn, not_below_itself, each_found, key_in_fits, key_in_own}
 use Rattle.bdb_val.proofs.PlaceLemmas.{filter_whole, filter_nothing}
 use Rattle.bdb_val.proofs.ReadLemmas.{world_of_key}
-use Rattle.bdb_val.proofs.RealLemmas.{length_mapped, tail_same}
+use Rattle.bdb_val.proofs.RealLemmas.{tail_same}
 use Rattle.bdb_val.proofs.TreeLemmas.{at_place, tells_from}
 
 counted_itself : (n : ℕ) → n < 2 ^ 64 → n ≡ counted n
@@ -91,7 +92,7 @@ module _ (t : Tables) (wid : ℕ) (n : IsNum wid) (es : List (ValKey × Mark)) (
   found = all_both (IsUnder val_codec (world_prefix wid)) (IsFoundIn es) (λ e. tables.get t (place val_codec e.0) ≡ Some (mark_bytes e.1)) (λ e u k. a.found (val_bytes e.0) u.begins ∙ k) es a.each (each_found es a.sorted)
 
   mapped_twice : (m : ValKey × Mark → ValKey × Option Mark) → length (map at_place (map m es)) ≡ length es
-  mapped_twice m = length_mapped at_place (map m es) ∙ length_mapped m es
+  mapped_twice m = length_map at_place (map m es) ∙ length_map m es
 
   -- ---- copying
 
@@ -151,12 +152,8 @@ members ps = go ps ps (λ q e. e)
     go [] all h = tt
     go (q ∷ qs) all h = (
       h q (ap (λ b. b || list_any (same_text q) qs) ((same_text-Decides q q).1 refl)),
-      go qs all (λ r e. h r (either (same_text r q) (list_any (same_text r) qs) e)),
+      go qs all (λ r e. h r (or_right (same_text r q) (list_any (same_text r) qs) e)),
     )
-      where
-        either : (a b : Bool) → b ≡ true → (a || b) ≡ true
-        either true b e = refl
-        either false b e = e
 
 -- ---- what the code owes
 

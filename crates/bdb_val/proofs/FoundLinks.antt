@@ -17,10 +17,10 @@ use Rattle.bdb_keep.specs.Tables.{Tables, bytes_cmp}
 use Rattle.bdb_key.specs.Bytes.{num_bytes}
 use Rattle.bdb_key.specs.Grammar.{IsNum}
 use Rattle.bdb_base.proofs.Numbers.{greater}
+use Rattle.bdb_keep.proofs.RowsLemmas.{same_place}
 use Rattle.bdb_tables.specs.InUse.{IsPair, pair_bytes, linked_codec}
 use Rattle.bdb_tables.specs.InUseLaws.{pairs_in_order}
 use Rattle.bdb_tables.specs.Spans.{AreUnder, IsUnder, entry_bytes, entry_cmp}
-use Rattle.bdb_tables.proofs.Held.{same_place}
 use Rattle.bdb_tables.proofs.ListLemmas.{prefix_append}
 use Rattle.bdb_val.specs.Others.{SameBut}
 use Rattle.bdb_val.specs.Visits.{AreLinks, ArePushed, led_to, leads_to, turned_round}

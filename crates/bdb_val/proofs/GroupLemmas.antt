@@ -26,7 +26,7 @@ use Rattle.bdb_val.specs.Reads.{AreTold, AreReadUnder, is_of_group}
 use Rattle.bdb_val.specs.Settled.{Worlds, settled_mark, passed_on, is_barred}
 use Rattle.bdb_val.specs.Settling.{RowChange, mark_in, barred_by, next_mark, same_mark, change_at, has_mark, fresh_change, AreNamed, row_key, keyed}
 use Rattle.bdb_val.specs.Steps.{rows_made}
-use Rattle.bdb_val.specs.declared.stored.Stored.{Stored}
+use Rattle.bdb_val.specs.declared.stored.StoredRow.{StoredRow}
 use Rattle.bdb_val.proofs.ReadLemmas.{HasKey, keyed_under, key_fits, tuple_row, read_named, read_mark, read_apart, told_tested, group_span}
 use Rattle.bdb_val.proofs.SettlingLemmas.{same_mark_itself, none_in, no_changes}
 use Rattle.bdb_val.proofs.StepLemmas.{mark_of_each}
@@ -34,7 +34,7 @@ use Rattle.bdb_val.proofs.StepLemmas.{mark_of_each}
 -- ---- marks
 
 -- rows have their marks by number, with their tuples or without
-pub mark_told : (t : Tables) (wid rel : ℕ) (v : List Value) (es : List (ℕ × Mark)) (xs : List Stored) → AreTold t (map (in_group wid rel v) es) xs → (tid : ℕ) → mark_under es tid ≡ mark_in xs tid
+pub mark_told : (t : Tables) (wid rel : ℕ) (v : List Value) (es : List (ℕ × Mark)) (xs : List StoredRow) → AreTold t (map (in_group wid rel v) es) xs → (tid : ℕ) → mark_under es tid ≡ mark_in xs tid
 mark_told t wid rel v [] [] a tid = refl
 mark_told t wid rel v [] (x ∷ xs) a tid = absurd a
 mark_told t wid rel v (e ∷ es) [] a tid = absurd a
@@ -63,7 +63,7 @@ or_same false = refl
 
 module _ (keys : ℕ → ℕ) (u : Tuple) where
   -- a row of the group, if it is explicit, is of another tuple
-  abbrev IsOther : Stored → Type 0
+  abbrev IsOther : StoredRow → Type 0
   IsOther x = (x.mark.1 ≡ true → same_tuple u x.tuple ≡ false) × (same_key keys u x.tuple ≡ true)
 
   plus_bars : (b : Bool) (s : Sign) (x : Tuple) → (b ≡ true → same_tuple u x ≡ false) → same_key keys u x ≡ true → (b && clash keys u Plus x s) ≡ (b && same_sign s Plus)
@@ -76,7 +76,7 @@ module _ (keys : ℕ → ℕ) (u : Tuple) where
   minus_bars true Plus x d = d refl
   minus_bars true Minus x d = refl
 
-  all_plus : (t : Tables) (wid rel : ℕ) (v : List Value) (es : List (ℕ × Mark)) (xs : List Stored) → AreTold t (map (in_group wid rel v) es) xs → AllByRecursion IsOther xs
+  all_plus : (t : Tables) (wid rel : ℕ) (v : List Value) (es : List (ℕ × Mark)) (xs : List StoredRow) → AreTold t (map (in_group wid rel v) es) xs → AllByRecursion IsOther xs
       → barred_by keys xs u Plus ≡ list_any is_explicit_plus es
   all_plus t wid rel v [] [] a q = refl
   all_plus t wid rel v [] (x ∷ xs) a q = absurd a
@@ -85,12 +85,12 @@ module _ (keys : ℕ → ℕ) (u : Tuple) where
       ap (λ b. b || barred_by keys xs u Plus) (plus_bars x.mark.1 x.mark.0 x.tuple q.0.0 q.0.1 ∙ ap (λ (m : Mark). m.1 && same_sign m.0 Plus) a.0.mark)
       ∙ ap (λ b. is_explicit_plus e || b) (all_plus t wid rel v es xs a.1 q.1)
 
-  all_minus : (xs : List Stored) → AllByRecursion IsOther xs → barred_by keys xs u Minus ≡ false
+  all_minus : (xs : List StoredRow) → AllByRecursion IsOther xs → barred_by keys xs u Minus ≡ false
   all_minus [] q = refl
   all_minus (x ∷ xs) q = ap (λ b. b || barred_by keys xs u Minus) (minus_bars x.mark.1 x.mark.0 x.tuple q.0.0) ∙ all_minus xs q.1
 
   -- rows of other tuples of the group bar a plus row where one of them is explicit and plus, and no minus row
-  others_bar : (t : Tables) (wid rel : ℕ) (v : List Value) (es : List (ℕ × Mark)) (xs : List Stored) → AreTold t (map (in_group wid rel v) es) xs → AllByRecursion IsOther xs
+  others_bar : (t : Tables) (wid rel : ℕ) (v : List Value) (es : List (ℕ × Mark)) (xs : List StoredRow) → AreTold t (map (in_group wid rel v) es) xs → AllByRecursion IsOther xs
       → (s : Sign) → barred_by keys xs u s ≡ (same_sign s Plus && list_any is_explicit_plus es)
   others_bar t wid rel v es xs a q Plus = all_plus t wid rel v es xs a q
   others_bar t wid rel v es xs a q Minus = all_minus xs q
@@ -115,7 +115,7 @@ one_key keys rel v a b e f =
 
 module _ (keys : ℕ → ℕ) (stmts : List Stmt) (n : Worlds) (tuple : ℕ → Option Tuple) (f : ValKey → Option Mark) (t : Tables) (h : HasExplicit keys stmts n tuple f t) (rel : ℕ) (v : List Value) (r : IsNum rel) (p : AreKeyVals v) where
   -- rows with the tuples of their numbers
-  abbrev with_tuples : (es : List (ValKey × Mark)) → AllByRecursion (HasKey keys tuple f t h.rows) es → List Stored
+  abbrev with_tuples : (es : List (ValKey × Mark)) → AllByRecursion (HasKey keys tuple f t h.rows) es → List StoredRow
   with_tuples [] k = []
   with_tuples (e ∷ es) k = record { tid = e.0.3; tuple = k.0.0; mark = e.1 } ∷ with_tuples es k.1
 
@@ -127,27 +127,27 @@ module _ (keys : ℕ → ℕ) (stmts : List Stmt) (n : Worlds) (tuple : ℕ → 
   are_told prefix (e ∷ es) a k = (record { tid = refl; mark = refl; tuple = has_row e.0.3 k.0.0 a.0.key.tuple k.0.1 }, are_told prefix es a.1 k.1)
 
   -- rows that are read can be read with their tuples
-  pub read_with : (prefix : List ℕ) (es : List (ValKey × Mark)) → AreUnder val_codec t prefix es → (xs : List Stored) × AreTold t es xs × AreReadUnder t prefix xs
+  pub read_with : (prefix : List ℕ) (es : List (ValKey × Mark)) → AreUnder val_codec t prefix es → (xs : List StoredRow) × AreTold t es xs × AreReadUnder t prefix xs
   read_with prefix es under =
       let k = keyed_under keys tuple f t h.rows prefix es under in
       let told = are_told prefix es under.each k in
       (with_tuples es k, told, record { entries = es; under = under; told = told })
 
   -- a row of the group: its number is that of its tuple, which is of the group, and its mark is found by its number
-  abbrev IsIn : List Stored → Stored → Type 0
+  abbrev IsIn : List StoredRow → StoredRow → Type 0
   IsIn all x = (tuple x.tid ≡ Some x.tuple) × (is_of_group keys rel v x.tuple ≡ true) × (mark_in all x.tid ≡ Some x.mark)
 
-  all_in : (all xs : List Stored) → AreNamed tuple xs → AllByRecursion (λ x. is_of_group keys rel v x.tuple ≡ true) xs → AllByRecursion (λ x. mark_in all x.tid ≡ Some x.mark) xs → AllByRecursion (IsIn all) xs
+  all_in : (all xs : List StoredRow) → AreNamed tuple xs → AllByRecursion (λ x. is_of_group keys rel v x.tuple ≡ true) xs → AllByRecursion (λ x. mark_in all x.tid ≡ Some x.mark) xs → AllByRecursion (IsIn all) xs
   all_in all [] a b c = tt
   all_in all (x ∷ xs) a b c = ((a.0, b.0, c.0), all_in all xs a.1 b.1 c.1)
 
-  read_in : (wid : ℕ) (xs : List Stored) → IsNum wid → AreReadUnder t (group_bytes wid rel v) xs → AllByRecursion (IsIn xs) xs
+  read_in : (wid : ℕ) (xs : List StoredRow) → IsNum wid → AreReadUnder t (group_bytes wid rel v) xs → AllByRecursion (IsIn xs) xs
   read_in wid xs w read =
       let span = group_span keys h.rows.lengths wid rel v w r p in
       all_in xs xs (read_named keys tuple f t h.rows (group_bytes wid rel v) xs read) (told_tested keys tuple f t h.rows wid (is_of_group keys rel v) (group_bytes wid rel v) xs span read)
       (mark_of_each xs xs (λ _ _ k. k) (read_apart keys tuple f t h.rows wid (is_of_group keys rel v) (group_bytes wid rel v) xs span read))
 
-  module _ (wid base : ℕ) (w : IsNum wid) (es fs : List (ℕ × Mark)) (xs ys : List Stored) (own_told : AreTold t (map (in_group wid rel v) es) xs)
+  module _ (wid base : ℕ) (w : IsNum wid) (es fs : List (ℕ × Mark)) (xs ys : List StoredRow) (own_told : AreTold t (map (in_group wid rel v) es) xs)
       (from_told : AreTold t (map (in_group base rel v) fs) ys)
       (read : AreReadUnder t (group_bytes wid rel v) xs) (from_in : AllByRecursion (IsIn ys) ys) where
     own_in : AllByRecursion (IsIn xs) xs
@@ -172,7 +172,7 @@ module _ (keys : ℕ → ℕ) (stmts : List Stmt) (n : Worlds) (tuple : ℕ → 
     explicit_some m e = cond-true m.1 (Some m.0) None e
 
     -- an explicit row is of another tuple than one whose row is not
-    others : (tid : ℕ) (u : Tuple) → tuple tid ≡ Some u → is_of_group keys rel v u ≡ true → explicit_of (mark_in xs tid) ≡ None → (zs : List Stored) → AllByRecursion (IsIn xs) zs → AllByRecursion (IsOther keys u) zs
+    others : (tid : ℕ) (u : Tuple) → tuple tid ≡ Some u → is_of_group keys rel v u ≡ true → explicit_of (mark_in xs tid) ≡ None → (zs : List StoredRow) → AllByRecursion (IsIn xs) zs → AllByRecursion (IsOther keys u) zs
     others tid u i e none [] a = tt
     others tid u i e none (z ∷ zs) a = (
       (
@@ -199,7 +199,7 @@ module _ (keys : ℕ → ℕ) (stmts : List Stmt) (n : Worlds) (tuple : ℕ → 
         ∙ handed (barred_by keys xs u) barred (others_bar keys u t wid rel v es xs own_told (others tid u i e none xs own_in)) o
 
     -- the change of a row of the world
-    own_is : (e : ℕ × Mark) (x : Stored) → x.tid ≡ e.0 → x.mark ≡ e.1 → IsIn xs x → map (in_group wid rel v) (own_change barred fs e) ≡ map (keyed keys wid) (change_at keys xs xs ys x)
+    own_is : (e : ℕ × Mark) (x : StoredRow) → x.tid ≡ e.0 → x.mark ≡ e.1 → IsIn xs x → map (in_group wid rel v) (own_change barred fs e) ≡ map (keyed keys wid) (change_at keys xs xs ys x)
     own_is e x i m k = elim (cases_Bool e.1.1) [
       | inl c ↦
           let stated : x.mark.1 ≡ true = ap (λ (z : Mark). z.1) m ∙ c in
@@ -222,7 +222,7 @@ module _ (keys : ℕ → ℕ) (stmts : List Stmt) (n : Worlds) (tuple : ℕ → 
     ]
 
     -- what is handed down where the world has no row
-    new_is : (e : ℕ × Mark) (y : Stored) → y.tid ≡ e.0 → y.mark ≡ e.1 → IsIn ys y → map (in_group wid rel v) (new_change barred es e) ≡ map (keyed keys wid) (fresh_change keys xs xs ys xs y)
+    new_is : (e : ℕ × Mark) (y : StoredRow) → y.tid ≡ e.0 → y.mark ≡ e.1 → IsIn ys y → map (in_group wid rel v) (new_change barred es e) ≡ map (keyed keys wid) (fresh_change keys xs xs ys xs y)
     new_is e y i m k =
         let here : is_some (mark_under es e.0) ≡ is_some (mark_in xs y.tid) = ap is_some (ap (mark_under es) (sym i) ∙ mark_told t wid rel v es xs own_told y.tid) in
         let both : has_mark xs xs y.tid ≡ is_some (mark_in xs y.tid) = or_same (is_some (mark_in xs y.tid)) in
@@ -242,7 +242,7 @@ module _ (keys : ℕ → ℕ) (stmts : List Stmt) (n : Worlds) (tuple : ℕ → 
               ∙ sym (ap (map (keyed keys wid)) (cond-false (has_mark xs xs y.tid) [] (change_at keys xs xs ys y) (both ∙ c)))
         ]
 
-    all_own : (ds : List (ℕ × Mark)) (zs : List Stored) → AreTold t (map (in_group wid rel v) ds) zs → AllByRecursion (IsIn xs) zs
+    all_own : (ds : List (ℕ × Mark)) (zs : List StoredRow) → AreTold t (map (in_group wid rel v) ds) zs → AllByRecursion (IsIn xs) zs
         → map (in_group wid rel v) (flat_map (own_change barred fs) ds) ≡ map (keyed keys wid) (flat_map (change_at keys xs xs ys) zs)
     all_own [] [] a k = refl
     all_own [] (z ∷ zs) a k = absurd a
@@ -253,7 +253,7 @@ module _ (keys : ℕ → ℕ) (stmts : List Stmt) (n : Worlds) (tuple : ℕ → 
         ∙ ap (λ cs. map (keyed keys wid) (change_at keys xs xs ys z) ++ cs) (all_own ds zs a.1 k.1)
         ∙ sym (map-append (keyed keys wid) (change_at keys xs xs ys z) (flat_map (change_at keys xs xs ys) zs))
 
-    all_new : (ds : List (ℕ × Mark)) (zs : List Stored) → AreTold t (map (in_group base rel v) ds) zs → AllByRecursion (IsIn ys) zs
+    all_new : (ds : List (ℕ × Mark)) (zs : List StoredRow) → AreTold t (map (in_group base rel v) ds) zs → AllByRecursion (IsIn ys) zs
         → map (in_group wid rel v) (flat_map (new_change barred es) ds) ≡ map (keyed keys wid) (flat_map (fresh_change keys xs xs ys xs) zs)
     all_new [] [] a k = refl
     all_new [] (z ∷ zs) a k = absurd a
@@ -282,8 +282,8 @@ module _ (keys : ℕ → ℕ) (stmts : List Stmt) (n : Worlds) (tuple : ℕ → 
 
   -- What settles a group, with the tuples: the rows that were read, and the changes made.
   pub record IsGroupRead (wid : ℕ) (link : Option ℕ) (es fs : List (ℕ × Mark)) : Type 0 where
-    pub own : List Stored
-    pub from : List Stored
+    pub own : List StoredRow
+    pub from : List StoredRow
     pub told : AreTold t (map (in_group wid rel v) es) own
     pub own_read : AreReadUnder t (group_bytes wid rel v) own
     pub from_read : MatchOption link (from ≡ []) (λ m. AreReadUnder t (group_bytes m rel v) from)

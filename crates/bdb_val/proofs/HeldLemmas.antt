@@ -1,7 +1,7 @@
 -- Settled rows are those of tables that hold the rows of the worlds, and the other way round.
-use Rattle.std.proofs.Common.{◌≡◌, ◌∙◌, ℕ, Bool, true, false, not, ◌&&◌, nat_eq, List, [], ◌∷◌, Option, Some, None, cond, inl, inr, refl, ap, sym, is_some}
+use Rattle.std.proofs.Common.{◌≡◌, ◌∙◌, ℕ, Bool, true, false, nat_eq, List, Option, Some, None, cond, inl, inr, refl, ap, sym, is_some}
 use Rattle.std.specs.Option.{option_and_then}
-use Rattle.std.proofs.lemmas.Bool.{false≢true, cases_Bool, and_parts, and_from, or_left, cond-true, cond-false, eqb-true, eq-eqb}
+use Rattle.std.proofs.lemmas.Bool.{false≢true, cases_Bool, and_parts, and_from, cond-true, cond-false, eqb-true, eq-eqb}
 use Rattle.bdb_base.specs.declared.kinds.Sign.{Sign}
 use Rattle.bdb_base.specs.declared.kinds.Sign.TheVariants.{Plus, Minus}
 use Rattle.bdb_base.specs.declared.kinds.Stmt.{Stmt}
@@ -11,8 +11,9 @@ use Rattle.bdb_base.specs.Clash.{key_of}
 use Rattle.bdb_base.specs.Same.{same_values}
 use Rattle.bdb_base.specs.SameLemmas.{same_values-Decides, same_tuple-Decides}
 use Rattle.bdb_base.specs.States.{deepest_suffix, suffix_link}
-use Rattle.bdb_base.specs.Worlds.{explicit, stated, contradicted, IsConsistent}
-use Rattle.bdb_base.proofs.WorldLemmas.{explicit_tuple, worlds_are_consistent}
+use Rattle.bdb_base.specs.Worlds.{explicit, stated, IsConsistent}
+use Rattle.bdb_base.proofs.WorldLemmas.{explicit_tuple, worlds_are_consistent, explicit_is_stated}
+use Rattle.bdb_base.proofs.OptionLemmas.{some_of, none_and_some, one_there}
 use Rattle.bdb_paths.proofs.SuffixLemmas.{deepest_is_member}
 use Rattle.bdb_keep.specs.Tables.{Tables}
 use Rattle.bdb_tables.specs.InUse.{ValKey, IsValKey, val_codec}
@@ -28,17 +29,13 @@ use Rattle.bdb_val.proofs.SettledLemmas.{settled_rows_are_right, right_rows_are_
 
 -- ---- names are linked
 
-pub some_is : {X : Type 0} (o : Option X) → is_some o ≡ true → (x : X) × (o ≡ Some x)
-some_is None e = absurd (false≢true e)
-some_is (Some x) e = (x, refl)
-
 pub names_are_linked : (ns : Names) → AreNames ns → AreLinked (is_named ns) (worlds_of ns)
 names_are_linked ns h = record {
   member = λ wid w e. ap is_some (h.named wid w e);
   root = λ wid e. ap (λ o. option_and_then (number_of ns) (option_and_then (suffix_link (is_named ns)) o)) e;
   link = λ wid i w e.
       let d = deepest_suffix (is_named ns) w in
-      let m = some_is (number_of ns d) (deepest_is_member (is_named ns) w (ap is_some h.root)) in
+      let m = some_of (number_of ns d) (deepest_is_member (is_named ns) w (ap is_some h.root)) in
       (m.0, ap (λ o. option_and_then (number_of ns) (option_and_then (suffix_link (is_named ns)) o)) e ∙ m.1, h.numbered d m.0 m.1);
 }
 
@@ -78,22 +75,16 @@ module _ (keys : ℕ → ℕ) (stmts : List Stmt) (ns : Names) (tuple : ℕ → 
       go None e = e
       go (Some m) e =
           let s : is_some (f k) ≡ true = ap is_some e in
-          let w = some_is (path_of ns k.0) (h.worlds k v s) in
+          let w = some_of (path_of ns k.0) (h.worlds k v s) in
           let u = h.rows.keyed k v s in
           absurd (bad w.0 u.0 w.1 u.1 u.2)
 
   row_is : (k : ValKey) → IsValKey k → f k ≡ row_for keys stmts (path_of ns) tuple k
   row_is k v = go (path_of ns k.0) (tuple k.3) refl refl
     where
-      none_some : {X : Type 0} (x : X) (o : Option X) → o ≡ None → o ≡ Some x → ⊥
-      none_some x o a b = cc
-
-      same_some : {X : Type 0} (x y : X) (o : Option X) → o ≡ Some x → o ≡ Some y → x ≡ y
-      same_some x y o a b = cc
-
       go : (p : Option (List ℕ)) (o : Option Tuple) → path_of ns k.0 ≡ p → tuple k.3 ≡ o → f k ≡ row_for keys stmts (path_of ns) tuple k
-      go None o a b = no_row k v (λ w u x y z. none_some w (path_of ns k.0) a x) ∙ sym (ap (λ p. row_named keys stmts k p (tuple k.3)) a)
-      go (Some w) None a b = no_row k v (λ w u x y z. none_some u (tuple k.3) b y)
+      go None o a b = no_row k v (λ w u x y z. none_and_some w (path_of ns k.0) a x) ∙ sym (ap (λ p. row_named keys stmts k p (tuple k.3)) a)
+      go (Some w) None a b = no_row k v (λ w u x y z. none_and_some u (tuple k.3) b y)
           ∙ sym (ap (λ p. row_named keys stmts k p (tuple k.3)) a ∙ ap (row_named keys stmts k (Some w)) b)
       go (Some w) (Some u) a b =
           let row : row_for keys stmts (path_of ns) tuple k ≡ cond (has_key keys k u) (mark_of keys stmts w u) None =
@@ -102,7 +93,7 @@ module _ (keys : ℕ → ℕ) (stmts : List Stmt) (ns : Names) (tuple : ℕ → 
             | inl e ↦
                 ap f (sym (row_of_key keys k u e)) ∙ held_row k.0 w k.3 u a b ∙ sym (cond-true (has_key keys k u) (mark_of keys stmts w u) None e) ∙ sym row
             | inr e ↦
-                no_row k v (λ w2 u2 x y z. false≢true (sym e ∙ key_of_row keys k u (ap (λ q. row_key keys k.0 k.3 q) (same_some u u2 (tuple k.3) b y) ∙ z)))
+                no_row k v (λ w2 u2 x y z. false≢true (sym e ∙ key_of_row keys k u (ap (λ q. row_key keys k.0 k.3 q) (one_there u u2 (tuple k.3) b y) ∙ z)))
                 ∙ sym (cond-false (has_key keys k u) (mark_of keys stmts w u) None e) ∙ sym row
           ]
 
@@ -111,10 +102,6 @@ settled_rows_are_held keys stmts ns tuple f t names states h settled =
     gives_same val_codec t f (row_for keys stmts (path_of ns) tuple) (row_is keys stmts ns tuple f t names states h settled) h.rows.rows
 
 -- ---- held rows are explicit where there are statements, and settled. Tuples of other statements may have numbers too.
-
-pub explicit_is_stated : (keys : ℕ → ℕ) (stmts : List Stmt) (w : List ℕ) (u : Tuple) (s : Sign) → explicit stmts w u s ≡ true → stated keys stmts w u s ≡ true
-explicit_is_stated keys stmts [] u s e = e
-explicit_is_stated keys stmts (i ∷ w) u s e = or_left (explicit stmts (i ∷ w) u s) (stated keys stmts w u s && not (contradicted keys stmts (i ∷ w) u s)) e
 
 -- an explicit mark is that of a statement
 pub explicit_mark : (keys : ℕ → ℕ) (stmts : List Stmt) (w : List ℕ) (u : Tuple) → IsConsistent keys stmts → explicit_of (mark_of keys stmts w u) ≡ explicit_sign stmts w u
@@ -171,7 +158,7 @@ held_rows_are_explicit keys stmts ns ts t lengths names states c h r = record {
   worlds = λ k v s. (held_names keys stmts stmts ns ts t h k s).0;
   explicit = λ wid w tid u p n. ap explicit_of (right_row keys stmts stmts ns ts t h wid w tid u p n) ∙ explicit_mark keys stmts w u c;
   numbered = λ w u s e.
-      let n = some_is (ts.number u) (h.stated u ∙ explicit_tuple stmts w u s e) in
+      let n = some_of (ts.number u) (h.stated u ∙ explicit_tuple stmts w u s e) in
       (n.0, h.numbered u n.0 n.1);
   consistent = c;
 }

@@ -14,12 +14,13 @@ use Rattle.bdb_tables.specs.Names.{Names, link_of, leads_to}
 use Rattle.bdb_tables.specs.Spans.{AreUnder, IsUnder, Spells}
 use Rattle.bdb_tables.specs.States.{row_where}
 use Rattle.bdb_tables.proofs.RangeLemmas.{spelled_under, zip_more, zip_all}
+use Rattle.bdb_tables.proofs.Held.{leads_is}
 use Rattle.bdb_val.specs.Groups.{HasLinks}
 use Rattle.bdb_val.specs.Others.{SameBut}
 use Rattle.bdb_val.specs.Visits.{AreLinksTo, ArePushed, PushesRead, turned_round}
 use Rattle.bdb_val.specs.Walks.{AreLinkedTo}
 use Rattle.bdb_val.proofs.OtherLemmas.{is_rows}
-use Rattle.bdb_val.proofs.WalkLemmas.{links_at, link_found, leads_tells}
+use Rattle.bdb_val.proofs.WalkLemmas.{links_at, link_found}
 
 -- the worlds that have links
 abbrev pub worlds_with : List (ℕ × ℕ) → List ℕ
@@ -58,7 +59,7 @@ links_are ns t u h same wid more l = subst (AllByRecursion (IsLink t)) (sym l.li
     go (d ∷ ds) a b =
         let k = stands (leads_to (link_of ns d.0.1) d.0.0) (links_at l.entries (pair_bytes d.0))
         (sym (h.linked.rows d.0 a.0.key) ∙ sym (same (place linked_codec d.0) refl) ∙ l.under.found (pair_bytes d.0) a.0.begins) b.0 in
-        (one d.0 a.0.key (leads_tells (link_of ns d.0.1) d.0.0 k), go ds a.1 b.1)
+        (one d.0 a.0.key (leads_is (link_of ns d.0.1) d.0.0 k), go ds a.1 b.1)
 
 -- ---- links that are read at once
 

@@ -1,9 +1,8 @@
 -- The row that a tuple is to have, by the rows that were read, is the settled one.
-use Rattle.std.proofs.Common.{◌≡◌, ◌∙◌, ℕ, Bool, true, false, ◌&&◌, nat_eq, List, [], ◌∷◌, Option, Some, None, cond, inl, inr, refl, ap, sym}
+use Rattle.std.proofs.Common.{◌≡◌, ◌∙◌, ℕ, Bool, true, false, ◌&&◌, nat_eq, List, [], ◌∷◌, Option, Some, None, inl, inr, refl, ap, sym}
 use Rattle.std.specs.List.{AllByRecursion}
 use Rattle.std.proofs.lemmas.Bool.{false≢true, cases_Bool, and_parts, and_from, or_cases, or_left, or_right, false_from_ne_true, cond-true, cond-false, eqb-true}
 use Rattle.bdb_base.specs.declared.kinds.Sign.{Sign}
-use Rattle.bdb_base.specs.declared.kinds.Sign.TheVariants.{Plus, Minus}
 use Rattle.bdb_base.specs.declared.kinds.Stmt.{Stmt}
 use Rattle.bdb_base.specs.declared.tuple.Tuple.{Tuple}
 use Rattle.bdb_base.specs.Clash.{clash}
@@ -12,10 +11,11 @@ use Rattle.bdb_base.specs.SameLemmas.{same_tuple-Decides, same_sign-Decides}
 use Rattle.bdb_base.specs.Worlds.{explicit, contradicted, IsConsistent}
 use Rattle.bdb_base.proofs.WorldLemmas.{explicit_apart}
 use Rattle.bdb_tables.specs.Marks.{Mark, sign_of, explicit_of, explicit_sign}
+use Rattle.bdb_tables.proofs.SignLemmas.{one_sign}
 use Rattle.bdb_val.specs.Settled.{passed_on, is_barred, settled_mark}
 use Rattle.bdb_val.specs.Settling.{mark_in, barred_by, AreNamed, IsGroup, AreNumbered, IsStatedAt, AreExplicit}
 use Rattle.bdb_val.specs.Laws.{NextMarksAreSettled}
-use Rattle.bdb_val.specs.declared.stored.Stored.{Stored}
+use Rattle.bdb_val.specs.declared.stored.StoredRow.{StoredRow}
 
 -- what contradicts is explicit, and clashes
 contradicting : (keys : ℕ → ℕ) (stmts : List Stmt) (w : List ℕ) (t : Tuple) (s : Sign) → contradicted keys stmts w t s ≡ true
@@ -36,15 +36,6 @@ contradicting keys (x ∷ xs) w t s e = elim (or_cases (same_path x.path w && cl
       (r.0, r.1, or_right (same_path x.path w && (same_tuple x.tuple r.0 && same_sign x.sign r.1)) (explicit xs w r.0 r.1) r.2, r.3)
 ]
 
--- where statements of one path don't clash, one sign at most is explicit
-explicit_is_sign : (keys : ℕ → ℕ) (stmts : List Stmt) (w : List ℕ) (t : Tuple) (s : Sign) → IsConsistent keys stmts → explicit stmts w t s ≡ true
-    → explicit_sign stmts w t ≡ Some s
-explicit_is_sign keys stmts w t Plus c e = cond-true (explicit stmts w t Plus) (Some Plus) (cond (explicit stmts w t Minus) (Some Minus) None) e
-explicit_is_sign keys stmts w t Minus c e =
-    cond-false (explicit stmts w t Plus) (Some Plus) (cond (explicit stmts w t Minus) (Some Minus) None)
-    (false_from_ne_true (explicit stmts w t Plus) (λ p. false≢true (sym (c w t t Plus Minus p e) ∙ (same_tuple-Decides t t).1 refl)))
-    ∙ cond-true (explicit stmts w t Minus) (Some Minus) None e
-
 abbrev no_sign : Option Sign
 no_sign = None
 
@@ -60,11 +51,11 @@ explicit_mark m s e = elim (cases_Bool m.1) [
     the_sign : {x y : Sign} → Some x ≡ Some y → x ≡ y
     the_sign e = cc
 
-one_tuple : (tuple : ℕ → Option Tuple) (a b : ℕ) (t u : Tuple) → tuple a ≡ Some t → tuple b ≡ Some u → nat_eq a b ≡ true → t ≡ u
+pub one_tuple : (tuple : ℕ → Option Tuple) (a b : ℕ) (t u : Tuple) → tuple a ≡ Some t → tuple b ≡ Some u → nat_eq a b ≡ true → t ≡ u
 one_tuple tuple a b t u p q e = let k : a ≡ b = eqb-true a b e in let l : tuple a ≡ tuple b = ap tuple k in cc
 
 -- an explicit row of a tuple bars what clashes with it
-row_bars : (keys : ℕ → ℕ) (tuple : ℕ → Option Tuple) (xs : List Stored) (tid : ℕ) (t t' : Tuple) (s s' : Sign) → AreNamed tuple xs → tuple tid ≡ Some t'
+row_bars : (keys : ℕ → ℕ) (tuple : ℕ → Option Tuple) (xs : List StoredRow) (tid : ℕ) (t t' : Tuple) (s s' : Sign) → AreNamed tuple xs → tuple tid ≡ Some t'
     → explicit_of (mark_in xs tid) ≡ Some s' → clash keys t s t' s' ≡ true → barred_by keys xs t s ≡ true
 row_bars keys tuple [] tid t t' s s' n e m c = absurd (none_is_some s' m)
 row_bars keys tuple (x ∷ xs) tid t t' s s' n e m c = elim (cases_Bool (nat_eq x.tid tid)) [
@@ -78,7 +69,7 @@ row_bars keys tuple (x ∷ xs) tid t t' s s' n e m c = elim (cases_Bool (nat_eq 
 ]
 
 -- what bars is a statement of the path
-bars_contradict : (keys : ℕ → ℕ) (stmts : List Stmt) (w : List ℕ) (xs : List Stored) (t : Tuple) (s : Sign) → AllByRecursion (IsStatedAt stmts w) xs
+bars_contradict : (keys : ℕ → ℕ) (stmts : List Stmt) (w : List ℕ) (xs : List StoredRow) (t : Tuple) (s : Sign) → AllByRecursion (IsStatedAt stmts w) xs
     → contradicted keys stmts w t s ≡ false → barred_by keys xs t s ≡ false
 bars_contradict keys stmts w [] t s n e = refl
 bars_contradict keys stmts w (x ∷ xs) t s n e = false_from_ne_true (barred_by keys (x ∷ xs) t s) (λ h.
@@ -89,14 +80,14 @@ bars_contradict keys stmts w (x ∷ xs) t s n e = false_from_ne_true (barred_by 
       | inr b ↦ false≢true (sym (bars_contradict keys stmts w xs t s n.1 e) ∙ b)
     ])
 
-same_bars : (keys : ℕ → ℕ) (stmts : List Stmt) (tuple : ℕ → Option Tuple) (test : Tuple → Bool) (own : List Stored) (w : List ℕ)
+same_bars : (keys : ℕ → ℕ) (stmts : List Stmt) (tuple : ℕ → Option Tuple) (test : Tuple → Bool) (own : List StoredRow) (w : List ℕ)
     → IsConsistent keys stmts → IsGroup keys test → AreNumbered tuple stmts → AreExplicit tuple test stmts w own
     → (t : Tuple) (s : Sign) → test t ≡ true → barred_by keys own t s ≡ contradicted keys stmts w t s
 same_bars keys stmts tuple test own w c g n x t s e = elim (cases_Bool (contradicted keys stmts w t s)) [
   | inl a ↦
       let r = contradicting keys stmts w t s a in
       let tid = n w r.0 r.1 r.2 in
-      row_bars keys tuple own tid.0 t r.0 s r.1 x.named tid.1 (x.all tid.0 r.0 tid.1 (g t r.0 s r.1 e r.3) ∙ explicit_is_sign keys stmts w r.0 r.1 c r.2) r.3 ∙ sym a
+      row_bars keys tuple own tid.0 t r.0 s r.1 x.named tid.1 (x.all tid.0 r.0 tid.1 (g t r.0 s r.1 e r.3) ∙ one_sign keys stmts w r.0 r.1 c r.2) r.3 ∙ sym a
   | inr a ↦ bars_contradict keys stmts w own t s x.stated a ∙ sym a
 ]
 

@@ -1,25 +1,13 @@
 -- How many of the places where look-ups differ pass a test, and lists that a map makes.
-use Rattle.std.proofs.Common.{◌≡◌, ◌≢◌, ◌∙◌, ℕ, suc, Bool, true, false, not, ◌||◌, List, [], ◌∷◌, length, filter, map, cond, inl, inr, refl, ap, sym, subst}
+use Rattle.std.proofs.Common.{◌≡◌, ◌≢◌, ◌∙◌, ℕ, suc, Bool, true, false, ◌||◌, List, [], ◌∷◌, length, filter, map, cond, inl, inr, refl, ap, sym, subst}
 use Rattle.std.specs.List.{list_any, AllByRecursion}
-use Rattle.std.proofs.lemmas.Bool.{true≢false, cases_Bool, and_parts, and_from, or_parts, not-true, not_from_false, cond-true, cond-false}
-use Rattle.bdb_base.specs.Bases.{are_distinct}
+use Rattle.std.proofs.lemmas.Bool.{true≢false, cases_Bool, or_parts, cond-true, cond-false}
 use Rattle.bdb_base.specs.Same.{same_text}
 use Rattle.bdb_base.specs.SameLemmas.{same_text-Decides}
-use Rattle.bdb_base.proofs.ListLemmas.{filter_kept_one, filter_dropped_one, list_any-filter_none}
+use Rattle.bdb_base.proofs.ListLemmas.{filter_kept_one, filter_dropped_one}
+use Rattle.bdb_base.proofs.UserLemmas.{distinct_filter}
 use Rattle.bdb_tables.specs.Differences.{AreDifferences}
 use Rattle.bdb_tables.proofs.DifferenceLemmas.{differences_are_counted}
-
-distinct_filter : (test : List ℕ → Bool) (ps : List (List ℕ)) → are_distinct ps ≡ true → are_distinct (filter test ps) ≡ true
-distinct_filter test [] e = refl
-distinct_filter test (p ∷ ps) e =
-    let k = and_parts (not (list_any (same_text p) ps)) (are_distinct ps) e in
-    let rest = distinct_filter test ps k.1 in
-    elim (cases_Bool (test p)) [
-      | inl c ↦ ap are_distinct (filter_kept_one test p ps c)
-          ∙ and_from (not (list_any (same_text p) (filter test ps))) (are_distinct (filter test ps))
-          (not_from_false (list_any (same_text p) (filter test ps)) (list_any-filter_none (same_text p) test ps (not-true (list_any (same_text p) ps) k.0))) rest
-      | inr c ↦ ap are_distinct (filter_dropped_one test p ps c) ∙ rest
-    ]
 
 -- a place that passes and isn't among those that pass isn't among all
 not_among : (test : List ℕ → Bool) (q : List ℕ) → test q ≡ true → (ps : List (List ℕ)) → list_any (same_text q) (filter test ps) ≡ false → list_any (same_text q) ps ≡ false

@@ -1,5 +1,5 @@
 -- The changes that settle a world are at different places, and each alters its row.
-use Rattle.std.proofs.Common.{◌≡◌, ◌≢◌, ◌∙◌, ℕ, suc, Bool, true, false, not, nat_eq, List, [], ◌∷◌, length, Option, Some, None, MatchOption, inl, inr, map, refl, ap, sym, subst}
+use Rattle.std.proofs.Common.{◌≡◌, ◌≢◌, ◌∙◌, ℕ, Bool, true, false, not, nat_eq, List, [], ◌∷◌, length, Option, Some, None, MatchOption, inl, inr, map, refl, ap, sym, subst}
 use Rattle.std.specs.List.{list_any, AllByRecursion}
 use Rattle.std.specs.Option.{option_map}
 use Rattle.std.specs.FinMap as tables
@@ -10,6 +10,8 @@ use Rattle.bdb_base.specs.Same.{same_text}
 use Rattle.bdb_base.specs.SameLemmas.{same_text-Decides}
 use Rattle.bdb_base.specs.declared.kinds.Value.{Value}
 use Rattle.bdb_base.specs.declared.tuple.Tuple.{Tuple}
+use Rattle.bdb_base.proofs.OptionLemmas.{none_is_some, same_some}
+use Rattle.bdb_base.proofs.ListLemmas.{length_map}
 use Rattle.bdb_keep.specs.Seen.{Seen}
 use Rattle.bdb_keep.specs.Tables.{Tables}
 use Rattle.bdb_key.specs.Grammar.{IsNum, AreKeyVals}
@@ -21,7 +23,6 @@ use Rattle.bdb_tables.specs.InUseLaws.{vals_are_one, mark_rows_are_one}
 use Rattle.bdb_tables.specs.Marks.{Mark}
 use Rattle.bdb_tables.specs.GroupMarks.{group_bytes}
 use Rattle.bdb_tables.proofs.DifferenceLemmas.{changes_differ, differences_are_counted}
-use Rattle.bdb_tables.proofs.Held.{some_same, none_some}
 use Rattle.bdb_val.specs.Reads.{HasRows, AreReadUnder, is_of_group}
 use Rattle.bdb_val.specs.Settling.{RowChange, mark_in, settling, are_apart, are_changes_apart, row_key, keyed}
 use Rattle.bdb_val.specs.Steps.{AreSpans, IsSettling, IsStep, WritesDifferences, rows_made}
@@ -33,9 +34,9 @@ use Rattle.bdb_val.proofs.StepLemmas.{IsOf, made_of, own_mark}
 
 one_mark : (a b : Option Mark) → option_map mark_bytes a ≡ option_map mark_bytes b → a ≡ b
 one_mark None None e = refl
-one_mark None (Some n) e = absurd (none_some (mark_bytes n) e)
-one_mark (Some m) None e = absurd (none_some (mark_bytes m) (sym e))
-one_mark (Some m) (Some n) e = ap Some (mark_rows_are_one m n tt tt (some_same (mark_bytes m) (mark_bytes n) e))
+one_mark None (Some n) e = absurd (none_is_some (mark_bytes n) e)
+one_mark (Some m) None e = absurd (none_is_some (mark_bytes m) (sym e))
+one_mark (Some m) (Some n) e = ap Some (mark_rows_are_one m n tt tt (same_some (mark_bytes m) (mark_bytes n) e))
 
 pub tail_same : (n : ℕ) (j k : List ℕ) → n ∷ j ≡ n ∷ k → j ≡ k
 tail_same n j k e = cc
@@ -103,10 +104,6 @@ module _ (keys : ℕ → ℕ) (tuple : ℕ → Option Tuple) (f : ValKey → Opt
     settling_differs = subst (λ v. AreDifferences (tables.get t) (tables.get v) (map (λ x. place val_codec x.0) (rows_made keys wid s.own s.from))) (sym s.written)
         (changes_differ val_codec t (rows_made keys wid s.own s.from) settling_real)
 
-pub length_mapped : {X Y : Type 0} (m : X → Y) (xs : List X) → length (map m xs) ≡ length xs
-length_mapped m [] = refl
-length_mapped m (x ∷ xs) = ap (λ n. suc n) (length_mapped m xs)
-
 -- a step makes as many writes as there are places where the tables differ
 pub step_writes : (keys : ℕ → ℕ) (old new : Seen) (wid rel : ℕ) (v : List Value) (s : SettledWorld) → IsNum wid → IsNum rel → AreKeyVals v → IsStep keys old new wid (λ w. group_bytes w rel v) s → WritesDifferences keys old new
 step_writes keys old new wid rel v s w r p step tuple f h ps d =
@@ -114,7 +111,7 @@ step_writes keys old new wid rel v s w r p step tuple f h ps d =
     let made = rows_made keys wid step.settling.own step.settling.from in
     let places = map (λ x. place val_codec x.0) made in
     let differ = settling_differs keys tuple f old.kept h (is_of_group keys rel v) (λ m. group_bytes m rel v) spans wid w new.kept step.link (fits step.link step.linked) step.settling in
-    let same : length ps ≡ length made = differences_are_counted (tables.get old.kept) (tables.get new.kept) ps places d differ ∙ length_mapped (λ x. place val_codec x.0) made in
+    let same : length ps ≡ length made = differences_are_counted (tables.get old.kept) (tables.get new.kept) ps places d differ ∙ length_map (λ x. place val_codec x.0) made in
     subst (λ n. Rises n old.writes new.writes) (sym same) step.writes
   where
     fits : (o : Option ℕ) → HasAt link_codec old.kept wid o → MatchOption o (Unit {0}) IsNum

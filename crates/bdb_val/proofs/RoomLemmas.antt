@@ -8,6 +8,7 @@ use Rattle.std.proofs.lemmas.Bool.{false≢true, cases_Bool, false_from_ne_true,
 use Rattle.bdb_base.specs.declared.kinds.Value.{Value}
 use Rattle.bdb_base.specs.Segments.{is_prefix}
 use Rattle.bdb_keep.specs.Tables.{Tables, bytes_cmp}
+use Rattle.bdb_keep.proofs.RowsLemmas.{same_place}
 use Rattle.bdb_key.specs.Bytes.{num_bytes}
 use Rattle.bdb_key.specs.Grammar.{IsNum}
 use Rattle.bdb_key.specs.Rows.{mark_bytes}
@@ -17,16 +18,13 @@ use Rattle.bdb_tables.specs.InUse.{ValKey, val_bytes, val_codec}
 use Rattle.bdb_tables.specs.Marks.{Mark}
 use Rattle.bdb_tables.specs.Spans.{AreUnder}
 use Rattle.bdb_tables.specs.Writes.{IsChange, with_change, with_changes}
-use Rattle.bdb_tables.proofs.Held.{same_place}
 use Rattle.bdb_tables.proofs.WriteLemmas.{get_after_change}
 use Rattle.bdb_tables.proofs.ListLemmas.{prefix_append}
-use Rattle.bdb_val.specs.Rooms.{AreHanded, AreRowsOf, AreSingle, HaveNone, IsNoted, IsRoomFor, unless_from}
+use Rattle.bdb_val.specs.Rooms.{AreHanded, AreRoomRows, AreSingle, HaveNone, IsNoted, IsRoomFor, unless_from}
 use Rattle.bdb_val.proofs.ReadLemmas.{world_of_group}
+use Rattle.bdb_val.proofs.RealLemmas.{tail_same}
 
 -- ---- the rows that are handed down
-
-tail_same : (n : ℕ) (j k : List ℕ) → n ∷ j ≡ n ∷ k → j ≡ k
-tail_same n j k e = cc
 
 module _ (rel : ℕ) (v : List Value) (wid m : ℕ) (n : IsNum m) (other : wid ≡ m → ⊥) where
   -- a change of another world's row
@@ -47,7 +45,7 @@ module _ (rel : ℕ) (v : List Value) (wid m : ℕ) (n : IsNum m) (other : wid �
 
 -- rows of another world stay
 rows_stay : (t u : Tables) (wid rel m : ℕ) (v : List Value) (rows : List (ℕ × Mark)) (cs : List (ℕ × Option Mark)) → AllByRecursion (IsChange val_codec) (map (in_group wid rel v) cs)
-    → u ≡ with_changes val_codec t (map (in_group wid rel v) cs) → (wid ≡ m → ⊥) → AreRowsOf t rel v rows m → AreRowsOf u rel v rows m
+    → u ≡ with_changes val_codec t (map (in_group wid rel v) cs) → (wid ≡ m → ⊥) → AreRoomRows t rel v rows m → AreRoomRows u rel v rows m
 rows_stay t u wid rel m v rows cs c w other h = record {
   world = h.world;
   under = record {
@@ -70,7 +68,7 @@ handed_stay t u wid rel v (Some m) rows cs c w h = elim (cases_Bool (nat_eq m wi
 
 -- a row that a world gets which has none is its only one
 only_row : (t u : Tables) (wid rel : ℕ) (v : List Value) (row : ℕ × Mark) → IsNum wid → AreUnder val_codec t (group_bytes wid rel v) [] → IsChange val_codec (in_group wid rel v (row.0, Some row.1))
-    → u ≡ with_change val_codec t (in_group wid rel v (row.0, Some row.1)) → AreRowsOf u rel v (row ∷ []) wid
+    → u ≡ with_change val_codec t (in_group wid rel v (row.0, Some row.1)) → AreRoomRows u rel v (row ∷ []) wid
 only_row t u wid rel v row n none fits w =
     let key : ValKey = (wid, rel, v, row.0) in
     record {
@@ -91,7 +89,7 @@ singles_after t u wid rel v own cs old new n under c w noted h m row e = elim (c
   | inl same ↦
       let is : wid ≡ m = eqb-true wid m same in
       let given = noted.given row (ap (λ (k : ℕ). get_or new k None) is ∙ e) in
-      subst (AreRowsOf u rel v (row ∷ [])) is (only_row t u wid rel v row n
+      subst (AreRoomRows u rel v (row ∷ [])) is (only_row t u wid rel v row n
       (subst (λ (xs : List (ℕ × Mark)). AreUnder val_codec t (group_bytes wid rel v) (map (in_group wid rel v) xs)) given.0 under)
       (subst (λ (xs : List (ℕ × Option Mark)). AllByRecursion (IsChange val_codec) (map (in_group wid rel v) xs)) given.1 c).0
       (w ∙ ap (λ (xs : List (ℕ × Option Mark)). with_changes val_codec t (map (in_group wid rel v) xs)) given.1))

@@ -7,11 +7,13 @@ use Rattle.std.proofs.lemmas.List.Folds.{list_any-append}
 use Rattle.bdb_base.specs.declared.tuple.Tuple.{Tuple}
 use Rattle.bdb_base.specs.Same.{same_sign}
 use Rattle.bdb_base.specs.SameLemmas.{same_sign-Decides}
+use Rattle.bdb_base.proofs.AllLemmas.{all_append}
 use Rattle.bdb_tables.specs.Marks.{Mark, sign_of, explicit_of}
 use Rattle.bdb_val.specs.Settled.{settled_mark}
 use Rattle.bdb_val.specs.Settling.{RowChange, mark_in, barred_by, next_mark, same_mark, change_at, has_mark, fresh_change, settling, last_mark, AreNamed}
 use Rattle.bdb_val.specs.Laws.{SettlingIsRight, NoneSettlesTheSettled, SettlingIsReal}
-use Rattle.bdb_val.specs.declared.stored.Stored.{Stored}
+use Rattle.bdb_val.specs.declared.stored.StoredRow.{StoredRow}
+use Rattle.bdb_val.proofs.NextMarks.{one_tuple}
 
 beq_same : (a b : Bool) → beq a b ≡ true → a ≡ b
 beq_same true true e = refl
@@ -40,14 +42,14 @@ same_mark_from : (m n : Option Mark) → m ≡ n → same_mark m n ≡ true
 same_mark_from m n e = ap (λ k. same_mark k n) e ∙ same_mark_itself n
 
 -- a tuple has a row where its number is among the rows'
-pub mark_is_some : (xs : List Stored) (tid : ℕ) → is_some (mark_in xs tid) ≡ list_any (λ y. nat_eq y.tid tid) xs
+pub mark_is_some : (xs : List StoredRow) (tid : ℕ) → is_some (mark_in xs tid) ≡ list_any (λ y. nat_eq y.tid tid) xs
 mark_is_some [] tid = refl
 mark_is_some (x ∷ xs) tid = elim (cases_Bool (nat_eq x.tid tid)) [
   | inl a ↦ ap is_some (cond-true (nat_eq x.tid tid) (Some x.mark) (mark_in xs tid) a) ∙ sym (or_left (nat_eq x.tid tid) (list_any (λ y. nat_eq y.tid tid) xs) a)
   | inr a ↦ ap is_some (cond-false (nat_eq x.tid tid) (Some x.mark) (mark_in xs tid) a) ∙ mark_is_some xs tid ∙ ap (λ b. b || list_any (λ y. nat_eq y.tid tid) xs) (sym a)
 ]
 
-pub none_in : (xs : List Stored) (tid : ℕ) → is_some (mark_in xs tid) ≡ false → mark_in xs tid ≡ None
+pub none_in : (xs : List StoredRow) (tid : ℕ) → is_some (mark_in xs tid) ≡ false → mark_in xs tid ≡ None
 none_in xs tid e = none (mark_in xs tid) e
   where
     none : (m : Option Mark) → is_some m ≡ false → m ≡ None
@@ -55,10 +57,6 @@ none_in xs tid e = none (mark_in xs tid) e
     none (Some m) e = absurd (true≢false e)
 
 -- ---- what holds of each change
-
-pub all_append : {X : Type 0} (P : X → Type 0) (xs ys : List X) → AllByRecursion P xs → AllByRecursion P ys → AllByRecursion P (xs ++ ys)
-all_append P [] ys a b = b
-all_append P (x ∷ xs) ys a b = (a.0, all_append P xs ys a.1 b)
 
 pub all_flat_map : {X Y : Type 0} (Q : X → Type 0) (P : Y → Type 0) (f : X → List Y) → ((x : X) → Q x → AllByRecursion P (f x)) → (xs : List X) → AllByRecursion Q xs → AllByRecursion P (flat_map f xs)
 all_flat_map Q P f h [] a = tt
@@ -69,8 +67,8 @@ all_of P h [] = tt
 all_of P h (x ∷ xs) = (h x, all_of P h xs)
 
 -- what holds of the changes of each row holds of all that settle a world
-pub settling_each : (keys : ℕ → ℕ) (stored own from : List Stored) (Q : Stored → Type 0) (P : RowChange → Type 0)
-    → ((x : Stored) → Q x → AllByRecursion P (change_at keys stored own from x)) → AllByRecursion Q stored → AllByRecursion Q own → AllByRecursion Q from
+pub settling_each : (keys : ℕ → ℕ) (stored own from : List StoredRow) (Q : StoredRow → Type 0) (P : RowChange → Type 0)
+    → ((x : StoredRow) → Q x → AllByRecursion P (change_at keys stored own from x)) → AllByRecursion Q stored → AllByRecursion Q own → AllByRecursion Q from
     → AllByRecursion P (settling keys stored own from)
 settling_each keys stored own from Q P h a b c =
     all_append P (flat_map (change_at keys stored own from) stored ++ flat_map (fresh_change keys stored own from []) own) (flat_map (fresh_change keys stored own from own) from)
@@ -79,14 +77,14 @@ settling_each keys stored own from Q P h a b c =
     (all_flat_map Q P (fresh_change keys stored own from []) (fresh []) own b))
     (all_flat_map Q P (fresh_change keys stored own from own) (fresh own) from c)
   where
-    fresh : (before : List Stored) (x : Stored) → Q x → AllByRecursion P (fresh_change keys stored own from before x)
+    fresh : (before : List StoredRow) (x : StoredRow) → Q x → AllByRecursion P (fresh_change keys stored own from before x)
     fresh before x q = elim (cases_Bool (has_mark stored before x.tid)) [
       | inl e ↦ subst (λ cs. AllByRecursion P cs) (sym (cond-true (has_mark stored before x.tid) [] (change_at keys stored own from x) e)) tt
       | inr e ↦ subst (λ cs. AllByRecursion P cs) (sym (cond-false (has_mark stored before x.tid) [] (change_at keys stored own from x) e)) (h x q)
     ]
 
 -- what holds of the change of a row, where the row is to be another, holds of its changes
-pub change_each : (keys : ℕ → ℕ) (stored own from : List Stored) (P : RowChange → Type 0) (x : Stored)
+pub change_each : (keys : ℕ → ℕ) (stored own from : List StoredRow) (P : RowChange → Type 0) (x : StoredRow)
     → (same_mark (mark_in stored x.tid) (next_mark keys own from x.tid x.tuple) ≡ false → P (x.tid, x.tuple, next_mark keys own from x.tid x.tuple))
     → AllByRecursion P (change_at keys stored own from x)
 change_each keys stored own from P x h =
@@ -118,37 +116,34 @@ last_of_one (x ∷ xs) tid m z a b = elim (cases_Bool (nat_eq x.0 tid)) [
     left (inl k) e = inl (ap (λ c. c || list_any (λ y. nat_eq y.0 tid) xs) (sym e) ∙ k)
     left (inr k) e = inr (cond-false (nat_eq x.0 tid) x.2 m e ∙ k)
 
-same_named : (tuple : ℕ → Option Tuple) (a b : ℕ) (t u : Tuple) → tuple a ≡ Some t → tuple b ≡ Some u → nat_eq a b ≡ true → t ≡ u
-same_named tuple a b t u p q e = let k : a ≡ b = eqb-true a b e in let l : tuple a ≡ tuple b = ap tuple k in cc
-
 -- all changes of one number put the row that its tuple is to have
-changes_at_one : (keys : ℕ → ℕ) (tuple : ℕ → Option Tuple) (stored own from : List Stored) → AreNamed tuple stored → AreNamed tuple own → AreNamed tuple from
+changes_at_one : (keys : ℕ → ℕ) (tuple : ℕ → Option Tuple) (stored own from : List StoredRow) → AreNamed tuple stored → AreNamed tuple own → AreNamed tuple from
     → (tid : ℕ) (t : Tuple) → tuple tid ≡ Some t → AllByRecursion (λ x. nat_eq x.0 tid ≡ true → x.2 ≡ next_mark keys own from tid t) (settling keys stored own from)
 changes_at_one keys tuple stored own from a b c tid t e =
     settling_each keys stored own from (λ x. tuple x.tid ≡ Some x.tuple) (λ x. nat_eq x.0 tid ≡ true → x.2 ≡ next_mark keys own from tid t)
     (λ x n. change_each keys stored own from (λ y. nat_eq y.0 tid ≡ true → y.2 ≡ next_mark keys own from tid t) x
-    (λ _ k. ap (λ i. next_mark keys own from i x.tuple) (eqb-true x.tid tid k) ∙ ap (λ u. next_mark keys own from tid u) (same_named tuple x.tid tid x.tuple t n e k)))
+    (λ _ k. ap (λ i. next_mark keys own from i x.tuple) (eqb-true x.tid tid k) ∙ ap (λ u. next_mark keys own from tid u) (one_tuple tuple x.tid tid x.tuple t n e k)))
     a b c
 
 -- a row that is to be another is changed
-change_is_there : (keys : ℕ → ℕ) (tuple : ℕ → Option Tuple) (stored own from : List Stored) (tid : ℕ) (t : Tuple) → tuple tid ≡ Some t
+change_is_there : (keys : ℕ → ℕ) (tuple : ℕ → Option Tuple) (stored own from : List StoredRow) (tid : ℕ) (t : Tuple) → tuple tid ≡ Some t
     → same_mark (mark_in stored tid) (next_mark keys own from tid t) ≡ false
-    → (x : Stored) → tuple x.tid ≡ Some x.tuple → nat_eq x.tid tid ≡ true → list_any (λ y. nat_eq y.0 tid) (change_at keys stored own from x) ≡ true
+    → (x : StoredRow) → tuple x.tid ≡ Some x.tuple → nat_eq x.tid tid ≡ true → list_any (λ y. nat_eq y.0 tid) (change_at keys stored own from x) ≡ true
 change_is_there keys tuple stored own from tid t e d x n k =
     let i : x.tid ≡ tid = eqb-true x.tid tid k in
-    let u : x.tuple ≡ t = same_named tuple x.tid tid x.tuple t n e k in
+    let u : x.tuple ≡ t = one_tuple tuple x.tid tid x.tuple t n e k in
     let m = next_mark keys own from x.tid x.tuple in
     let b : same_mark (mark_in stored x.tid) m ≡ false = ap (λ j. same_mark (mark_in stored j) (next_mark keys own from j x.tuple)) i
     ∙ ap (λ v. same_mark (mark_in stored tid) (next_mark keys own from tid v)) u ∙ d in
     ap (list_any (λ y. nat_eq y.0 tid)) (cond-false (same_mark (mark_in stored x.tid) m) [] ((x.tid, x.tuple, m) ∷ []) b) ∙ or_left (nat_eq x.tid tid) false k
 
 -- a list's changes have a number, where the list has it and each row of that number is changed
-any_flat_map : (f : Stored → List RowChange) (tuple : ℕ → Option Tuple) (tid : ℕ)
-    → ((x : Stored) → tuple x.tid ≡ Some x.tuple → nat_eq x.tid tid ≡ true → list_any (λ y. nat_eq y.0 tid) (f x) ≡ true)
-    → (xs : List Stored) → AreNamed tuple xs → is_some (mark_in xs tid) ≡ true → list_any (λ y. nat_eq y.0 tid) (flat_map f xs) ≡ true
+any_flat_map : (f : StoredRow → List RowChange) (tuple : ℕ → Option Tuple) (tid : ℕ)
+    → ((x : StoredRow) → tuple x.tid ≡ Some x.tuple → nat_eq x.tid tid ≡ true → list_any (λ y. nat_eq y.0 tid) (f x) ≡ true)
+    → (xs : List StoredRow) → AreNamed tuple xs → is_some (mark_in xs tid) ≡ true → list_any (λ y. nat_eq y.0 tid) (flat_map f xs) ≡ true
 any_flat_map f tuple tid h xs n e = go xs n (sym (mark_is_some xs tid) ∙ e)
   where
-    go : (ys : List Stored) → AreNamed tuple ys → list_any (λ y. nat_eq y.tid tid) ys ≡ true → list_any (λ y. nat_eq y.0 tid) (flat_map f ys) ≡ true
+    go : (ys : List StoredRow) → AreNamed tuple ys → list_any (λ y. nat_eq y.tid tid) ys ≡ true → list_any (λ y. nat_eq y.0 tid) (flat_map f ys) ≡ true
     go [] n e = absurd (false≢true e)
     go (y ∷ ys) n e = list_any-append (λ z. nat_eq z.0 tid) (f y) (flat_map f ys) ∙ elim (or_cases (nat_eq y.tid tid) (list_any (λ z. nat_eq z.tid tid) ys) e) [
       | inl a ↦ or_left (list_any (λ z. nat_eq z.0 tid) (f y)) (list_any (λ z. nat_eq z.0 tid) (flat_map f ys)) (h y n.0 a)
@@ -164,12 +159,12 @@ settling_is_right keys tuple stored own from a b c tid t e =
       | inr k ↦ inl (there k)
     ])
   where
-    at : (x : Stored) → tuple x.tid ≡ Some x.tuple → nat_eq x.tid tid ≡ true → same_mark (mark_in stored tid) (next_mark keys own from tid t) ≡ false
+    at : (x : StoredRow) → tuple x.tid ≡ Some x.tuple → nat_eq x.tid tid ≡ true → same_mark (mark_in stored tid) (next_mark keys own from tid t) ≡ false
         → list_any (λ y. nat_eq y.0 tid) (change_at keys stored own from x) ≡ true
     at x n k d = change_is_there keys tuple stored own from tid t e d x n k
 
-    fresh : (before : List Stored) → has_mark stored before tid ≡ false → same_mark (mark_in stored tid) (next_mark keys own from tid t) ≡ false
-        → (x : Stored) → tuple x.tid ≡ Some x.tuple → nat_eq x.tid tid ≡ true → list_any (λ y. nat_eq y.0 tid) (fresh_change keys stored own from before x) ≡ true
+    fresh : (before : List StoredRow) → has_mark stored before tid ≡ false → same_mark (mark_in stored tid) (next_mark keys own from tid t) ≡ false
+        → (x : StoredRow) → tuple x.tid ≡ Some x.tuple → nat_eq x.tid tid ≡ true → list_any (λ y. nat_eq y.0 tid) (fresh_change keys stored own from before x) ≡ true
     fresh before h d x n k =
         ap (list_any (λ y. nat_eq y.0 tid)) (cond-false (has_mark stored before x.tid) [] (change_at keys stored own from x) (ap (has_mark stored before) (eqb-true x.tid tid k) ∙ h)) ∙ at x n k d
 
@@ -203,7 +198,7 @@ settling_is_right keys tuple stored own from a b c tid t e =
 
 -- ---- where nothing is to be another
 
-pub no_changes : (f : Stored → List RowChange) (Q : Stored → Type 0) → ((x : Stored) → Q x → f x ≡ []) → (xs : List Stored) → AllByRecursion Q xs → flat_map f xs ≡ []
+pub no_changes : (f : StoredRow → List RowChange) (Q : StoredRow → Type 0) → ((x : StoredRow) → Q x → f x ≡ []) → (xs : List StoredRow) → AllByRecursion Q xs → flat_map f xs ≡ []
 no_changes f Q h [] a = refl
 no_changes f Q h (x ∷ xs) a = ap (λ ys. ys ++ flat_map f xs) (h x a.0) ∙ no_changes f Q h xs a.1
 
@@ -214,12 +209,12 @@ none_settles_the_settled keys tuple stored own from a b c h =
     ∙ ap (λ xs. xs ++ flat_map (fresh_change keys stored own from own) from) (no_changes (fresh_change keys stored own from []) (λ x. tuple x.tid ≡ Some x.tuple) (fresh []) own b)
     ∙ no_changes (fresh_change keys stored own from own) (λ x. tuple x.tid ≡ Some x.tuple) (fresh own) from c
   where
-    none : (x : Stored) → tuple x.tid ≡ Some x.tuple → change_at keys stored own from x ≡ []
+    none : (x : StoredRow) → tuple x.tid ≡ Some x.tuple → change_at keys stored own from x ≡ []
     none x n =
         let m = next_mark keys own from x.tid x.tuple in
         cond-true (same_mark (mark_in stored x.tid) m) [] ((x.tid, x.tuple, m) ∷ []) (same_mark_from (mark_in stored x.tid) m (h x.tid x.tuple n))
 
-    fresh : (before : List Stored) (x : Stored) → tuple x.tid ≡ Some x.tuple → fresh_change keys stored own from before x ≡ []
+    fresh : (before : List StoredRow) (x : StoredRow) → tuple x.tid ≡ Some x.tuple → fresh_change keys stored own from before x ≡ []
     fresh before x n = elim (cases_Bool (has_mark stored before x.tid)) [
       | inl e ↦ cond-true (has_mark stored before x.tid) [] (change_at keys stored own from x) e
       | inr e ↦ cond-false (has_mark stored before x.tid) [] (change_at keys stored own from x) e ∙ none x n

@@ -6,7 +6,9 @@ use Rattle.std.specs.Option.{option_map}
 use Rattle.std.specs.FinMap as tables
 use Rattle.std.proofs.lemmas.Bool.{cases_Bool, cond-false}
 use Rattle.bdb_base.specs.declared.kinds.Value.{Value}
+use Rattle.bdb_base.proofs.AllLemmas.{all_append}
 use Rattle.bdb_keep.specs.Tables.{Tables, bytes_cmp}
+use Rattle.bdb_keep.proofs.RowsLemmas.{same_place}
 use Rattle.bdb_key.specs.Grammar.{IsNum}
 use Rattle.bdb_tables.specs.Codec.{HasAt, place}
 use Rattle.bdb_tables.specs.GroupMarks.{group_bytes, in_group}
@@ -15,17 +17,17 @@ use Rattle.bdb_tables.specs.InUseLaws.{vals_are_one}
 use Rattle.bdb_tables.specs.Marks.{Mark}
 use Rattle.bdb_tables.specs.Spans.{AreUnder}
 use Rattle.bdb_tables.specs.Writes.{IsChange, with_change, with_changes}
-use Rattle.bdb_tables.proofs.Held.{same_place}
 use Rattle.bdb_tables.proofs.WriteLemmas.{get_after_change, row_elsewhere}
 use Rattle.bdb_val.specs.GroupChanges.{mark_under, is_explicit_plus, handed_down, group_change, own_change, new_change, group_changes, turns_at, comes_at, goes_at, TellsMarks}
 use Rattle.bdb_val.specs.Reads.{AreTold, HaveTuples}
 use Rattle.bdb_val.specs.Settling.{mark_in, same_mark}
 use Rattle.bdb_val.specs.Steps.{turns_from, comes, goes, turns, is_new, is_gone, Tells}
 use Rattle.bdb_val.specs.declared.stored.SettledWorld.{SettledWorld}
-use Rattle.bdb_val.specs.declared.stored.Stored.{Stored}
+use Rattle.bdb_val.specs.declared.stored.StoredRow.{StoredRow}
 use Rattle.bdb_val.proofs.GroupLemmas.{mark_told}
-use Rattle.bdb_val.proofs.SettlingLemmas.{all_append, all_flat_map}
+use Rattle.bdb_val.proofs.SettlingLemmas.{all_flat_map}
 use Rattle.bdb_val.proofs.ToldLemmas.{Stands, entries_stand}
+use Rattle.bdb_val.proofs.RealLemmas.{tail_same}
 
 -- ---- changes of a group
 
@@ -67,9 +69,6 @@ HasTuple t tid = is_some (tables.get t (place tuple_codec tid)) ≡ true
 
 tuple_stays : (t : Tables) (x : ValKey × Option Mark) (tid : ℕ) → tables.get (with_change val_codec t x) (place tuple_codec tid) ≡ tables.get t (place tuple_codec tid)
 tuple_stays t x tid = row_elsewhere tuple_codec val_codec (λ e. cc) t x (tuple_codec.key_bytes tid)
-
-tail_same : (n : ℕ) (j k : List ℕ) → n ∷ j ≡ n ∷ k → j ≡ k
-tail_same n j k e = cc
 
 one_change : (t : Tables) (x : ValKey × Option Mark) → HaveTuples t → IsChange val_codec x → HasTuple t x.0.3 → HaveTuples (with_change val_codec t x)
 one_change t x h c r k v s = ap is_some (tuple_stays t x k.3) ∙ elim (cases_Bool (eq_by_cmp bytes_cmp (place val_codec k) (place val_codec x.0))) [
@@ -118,7 +117,7 @@ fits_at t wid (Some m) h = h.in_grammar
 -- ---- what is told
 
 -- what is told by numbers is told of the rows with their tuples
-pub group_tells : (t : Tables) (wid rel : ℕ) (v : List Value) (es : List (ℕ × Mark)) (xs : List Stored) (made : List (ℕ × Option Mark)) (s : SettledWorld) → AreTold t (map (in_group wid rel v) es) xs
+pub group_tells : (t : Tables) (wid rel : ℕ) (v : List Value) (es : List (ℕ × Mark)) (xs : List StoredRow) (made : List (ℕ × Option Mark)) (s : SettledWorld) → AreTold t (map (in_group wid rel v) es) xs
     → TellsMarks (mark_under es) made s → Tells (mark_in xs) (map (in_group wid rel v) made) s
 group_tells t wid rel v es xs made s a h = record {
   turned = h.turned ∙ any_keyed (turns_at (mark_under es)) (turns (mark_in xs)) (λ x. ap (λ m. turns_from m x.1) (mark_told t wid rel v es xs a x.0)) made;

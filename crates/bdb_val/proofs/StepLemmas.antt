@@ -9,25 +9,25 @@ use Rattle.bdb_base.specs.declared.kinds.Stmt.{Stmt}
 use Rattle.bdb_base.specs.declared.tuple.Tuple.{Tuple}
 use Rattle.bdb_base.specs.Worlds.{explicit, contradicted, IsConsistent}
 use Rattle.bdb_keep.specs.Tables.{Tables, bytes_cmp}
+use Rattle.bdb_keep.proofs.RowsLemmas.{same_place}
 use Rattle.bdb_key.specs.Grammar.{IsNum}
 use Rattle.bdb_key.proofs.Forms.{tied}
 use Rattle.bdb_tables.specs.InUse.{ValKey, IsValKey, val_bytes, val_codec}
 use Rattle.bdb_tables.specs.InUseLaws.{vals_are_one, vals_in_order}
 use Rattle.bdb_tables.specs.Writes.{IsChange, Gives, with_row_at, with_rows_at}
-use Rattle.bdb_tables.proofs.Held.{same_place}
 use Rattle.bdb_tables.proofs.WriteLemmas.{changes_give}
 use Rattle.bdb_tables.specs.Marks.{Mark, sign_by, sign_of, explicit_of, explicit_sign}
 use Rattle.bdb_val.specs.Settled.{settled_mark, sign_at}
 use Rattle.bdb_val.specs.Settling.{RowChange, mark_in, next_mark, settling, last_mark, AreNamed, are_apart, IsGroup, AreNumbered, IsStatedAt, AreExplicit, row_key, keyed}
 use Rattle.bdb_val.specs.Reads.{AreReadUnder, HasRows}
 use Rattle.bdb_val.specs.Steps.{AreSpans, IsSettling}
-use Rattle.bdb_val.specs.declared.stored.Stored.{Stored}
+use Rattle.bdb_val.specs.declared.stored.StoredRow.{StoredRow}
 use Rattle.bdb_val.proofs.NextMarks.{next_marks_are_settled}
 use Rattle.bdb_val.proofs.ReadLemmas.{one_number, read_named, read_mark, read_apart, key_fits, told_tested}
 use Rattle.bdb_val.proofs.SettlingLemmas.{settling_each, change_each, settling_is_right}
 
 -- a test holds of the tuples of rows
-abbrev pub AreTested : (Tuple → Bool) → List Stored → Type 0
+abbrev pub AreTested : (Tuple → Bool) → List StoredRow → Type 0
 AreTested test xs = AllByRecursion (λ x. test x.tuple ≡ true) xs
 
 both : {X : Type 0} (P Q : X → Type 0) (xs : List X) → AllByRecursion P xs → AllByRecursion Q xs → AllByRecursion (λ x. P x × Q x) xs
@@ -39,7 +39,7 @@ abbrev pub IsOf : (ℕ → Option Tuple) → (Tuple → Bool) → RowChange → 
 IsOf tuple test x = (tuple x.0 ≡ Some x.1) × (test x.1 ≡ true)
 
 -- the changes that settle rows are of those rows' tuples
-pub settling_of : (keys : ℕ → ℕ) (tuple : ℕ → Option Tuple) (test : Tuple → Bool) (stored own from : List Stored)
+pub settling_of : (keys : ℕ → ℕ) (tuple : ℕ → Option Tuple) (test : Tuple → Bool) (stored own from : List StoredRow)
     → AreNamed tuple stored → AreNamed tuple own → AreNamed tuple from → AreTested test stored → AreTested test own → AreTested test from
     → AllByRecursion (IsOf tuple test) (settling keys stored own from)
 settling_of keys tuple test stored own from a b c d e f =
@@ -50,7 +50,7 @@ settling_of keys tuple test stored own from a b c d e f =
     (both (λ x. tuple x.tid ≡ Some x.tuple) (λ x. test x.tuple ≡ true) from c f)
 
 -- a mark that is found among rows of which no number stands twice
-pub mark_of_each : (xs all : List Stored) → ((tid : ℕ) (m : Mark) → mark_in xs tid ≡ Some m → mark_in all tid ≡ Some m) → are_apart xs ≡ true → AllByRecursion (λ x. mark_in all x.tid ≡ Some x.mark) xs
+pub mark_of_each : (xs all : List StoredRow) → ((tid : ℕ) (m : Mark) → mark_in xs tid ≡ Some m → mark_in all tid ≡ Some m) → are_apart xs ≡ true → AllByRecursion (λ x. mark_in all x.tid ≡ Some x.mark) xs
 mark_of_each [] all h a = tt
 mark_of_each (x ∷ xs) all h a = elim (cases_Bool (list_any (λ y. nat_eq y.tid x.tid) xs)) [
   | inl e ↦ absurd (false≢true (sym (cond-true (list_any (λ y. nat_eq y.tid x.tid) xs) false (are_apart xs) e) ∙ a))
@@ -67,7 +67,7 @@ mark_of_each (x ∷ xs) all h a = elim (cases_Bool (list_any (λ y. nat_eq y.tid
         none : (o : Option Mark) (m : Mark) → o ≡ None → o ≡ Some m → ⊥
         none o m p q = cc
 
-        absent : (ys : List Stored) (i : ℕ) → list_any (λ y. nat_eq y.tid i) ys ≡ false → mark_in ys i ≡ None
+        absent : (ys : List StoredRow) (i : ℕ) → list_any (λ y. nat_eq y.tid i) ys ≡ false → mark_in ys i ≡ None
         absent [] i e = refl
         absent (y ∷ ys) i e = elim (cases_Bool (nat_eq y.tid i)) [
           | inl c ↦ absurd (true≢false (sym (ap (λ b. b || list_any (λ z. nat_eq z.tid i) ys) c) ∙ e))
@@ -131,7 +131,7 @@ module _ (keys : ℕ → ℕ) (tuple : ℕ → Option Tuple) (f : ValKey → Opt
     own_tested : AreTested test s.own
     own_tested = told_tested keys tuple f t h wid test (prefix wid) s.own (spans wid w) s.own_read
 
-    by_link : (P : List Stored → Type 0) → P [] → ((m : ℕ) → IsNum m → AreReadUnder t (prefix m) s.from → P s.from) → P s.from
+    by_link : (P : List StoredRow → Type 0) → P [] → ((m : ℕ) → IsNum m → AreReadUnder t (prefix m) s.from → P s.from) → P s.from
     by_link P none some = go link l s.from_read
       where
         go : (o : Option ℕ) → MatchOption o (Unit {0}) IsNum → MatchOption o (s.from ≡ []) (λ m. AreReadUnder t (prefix m) s.from) → P s.from
@@ -189,7 +189,7 @@ module _ (keys : ℕ → ℕ) (tuple : ℕ → Option Tuple) (f : ValKey → Opt
               go false true Minus a b k = b
               go false false s a b k = absurd cc
 
-          each : (xs : List Stored) → AreNamed tuple xs → AreTested test xs → AllByRecursion (λ x. mark_in s.own x.tid ≡ Some x.mark) xs → AllByRecursion (IsStatedAt stmts v) xs
+          each : (xs : List StoredRow) → AreNamed tuple xs → AreTested test xs → AllByRecursion (λ x. mark_in s.own x.tid ≡ Some x.mark) xs → AllByRecursion (IsStatedAt stmts v) xs
           each [] a b c = tt
           each (x ∷ xs) a b c = (
             (λ e. by_sign x.tuple x.mark.0

@@ -10,7 +10,7 @@ use Rattle.bdb_tables.specs.InUse.{ValKey, IsValKey, val_bytes, tuple_codec, val
 use Rattle.bdb_tables.specs.Spans.{AreUnder, IsUnder}
 use Rattle.bdb_tables.specs.Marks.{Mark}
 use Rattle.bdb_val.specs.Reads.{AreTold, HaveTuples}
-use Rattle.bdb_val.specs.declared.stored.Stored.{Stored}
+use Rattle.bdb_val.specs.declared.stored.StoredRow.{StoredRow}
 use Rattle.bdb_val.proofs.ReadLemmas.{rows_at, entry_found}
 
 -- a row's key is in the grammar, and the table has the row
@@ -28,32 +28,32 @@ entries_stand t prefix es u = go es u.each (entry_found es es (λ q s. s))
 -- ---- rows by the numbers of their tuples
 
 -- a row with its tuple is that of a number
-pub record IsToldAt (t : Tables) (n : ℕ × Mark) (x : Stored) : Type 0 where
+pub record IsToldAt (t : Tables) (n : ℕ × Mark) (x : StoredRow) : Type 0 where
   pub tid : x.tid ≡ n.0
   pub mark : x.mark ≡ n.1
   pub tuple : HasRow tuple_codec t x.tid x.tuple
 
 -- rows with their tuples are those of numbers, one by one
-abbrev pub AreToldAt : Tables → List (ℕ × Mark) → List Stored → Type 0
+abbrev pub AreToldAt : Tables → List (ℕ × Mark) → List StoredRow → Type 0
 AreToldAt t [] [] = Unit {0}
 AreToldAt t [] (x ∷ xs) = ⊥
 AreToldAt t (n ∷ ns) [] = ⊥
 AreToldAt t (n ∷ ns) (x ∷ xs) = IsToldAt t n x × AreToldAt t ns xs
 
-told_at_push : (t : Tables) (ns : List (ℕ × Mark)) (n : ℕ × Mark) (xs : List Stored) (x : Stored) → AreToldAt t ns xs → IsToldAt t n x → AreToldAt t (ns ++ n ∷ []) (xs ++ x ∷ [])
+told_at_push : (t : Tables) (ns : List (ℕ × Mark)) (n : ℕ × Mark) (xs : List StoredRow) (x : StoredRow) → AreToldAt t ns xs → IsToldAt t n x → AreToldAt t (ns ++ n ∷ []) (xs ++ x ∷ [])
 told_at_push t [] n [] x a h = (h, tt)
 told_at_push t [] n (y ∷ ys) x a h = absurd a
 told_at_push t (m ∷ ms) n [] x a h = absurd a
 told_at_push t (m ∷ ms) n (y ∷ ys) x a h = (a.0, told_at_push t ms n ys x a.1 h)
 
 -- one row more
-pub told_at_more : (t : Tables) (ns : List (ℕ × Mark)) (i : ℕ) (n : ℕ × Mark) (x : Stored) (xs : List Stored) → i < length ns → n ≡ get_or ns i n
+pub told_at_more : (t : Tables) (ns : List (ℕ × Mark)) (i : ℕ) (n : ℕ × Mark) (x : StoredRow) (xs : List StoredRow) → i < length ns → n ≡ get_or ns i n
     → AreToldAt t (take i ns) xs → IsToldAt t n x → AreToldAt t (take (i + 1) ns) (xs ++ x ∷ [])
 told_at_more t ns i n x xs lt is a h =
     subst (λ ms. AreToldAt t ms (xs ++ x ∷ [])) (sym (take_more ns i n lt ∙ ap (λ y. take i ns ++ y ∷ []) (sym is))) (told_at_push t (take i ns) n xs x a h)
 
 -- rows that are told by numbers are those of the table
-pub told_entries : (t : Tables) (es : List (ValKey × Mark)) (xs : List Stored) → AreToldAt t (map numbered es) xs → AreTold t es xs
+pub told_entries : (t : Tables) (es : List (ValKey × Mark)) (xs : List StoredRow) → AreToldAt t (map numbered es) xs → AreTold t es xs
 told_entries t [] [] a = tt
 told_entries t [] (x ∷ xs) a = absurd a
 told_entries t (e ∷ es) [] a = absurd a

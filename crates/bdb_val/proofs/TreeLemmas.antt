@@ -15,6 +15,9 @@ use Rattle.bdb_base.specs.Causes.{Rises}
 use Rattle.bdb_base.specs.Same.{same_text}
 use Rattle.bdb_base.specs.SameLemmas.{same_text-Decides}
 use Rattle.bdb_base.specs.SortedSet.{ascending}
+use Rattle.bdb_base.proofs.OptionLemmas.{some_of}
+use Rattle.bdb_base.proofs.ListLemmas.{length_map}
+use Rattle.bdb_base.proofs.AllLemmas.{all_append}
 use Rattle.bdb_keep.specs.Seen.{Seen}
 use Rattle.bdb_keep.specs.Tables.{Tables}
 use Rattle.bdb_key.specs.Bytes.{num_bytes}
@@ -38,10 +41,9 @@ use Rattle.bdb_val.specs.Steps.{AreSpans, is_new, is_gone, counted}
 use Rattle.bdb_val.specs.Walks.{AreLinkedTo, IsVisit, Walked, changes_of, put_by, taken_by}
 use Rattle.bdb_val.specs.Walks.Walked.{first, next}
 use Rattle.bdb_val.specs.declared.stored.Settled.{Settled}
-use Rattle.bdb_val.proofs.HeldLemmas.{some_is}
 use Rattle.bdb_val.proofs.PlaceLemmas.{filtered_are_counted, filter_mapped, filter_alike}
 use Rattle.bdb_val.proofs.ReadLemmas.{key_fits, group_span}
-use Rattle.bdb_val.proofs.RealLemmas.{settling_differs, length_mapped, tail_same}
+use Rattle.bdb_val.proofs.RealLemmas.{settling_differs, tail_same}
 use Rattle.bdb_val.proofs.SettlingLemmas.{settling_each, change_each, settling_is_real, all_of}
 use Rattle.bdb_val.proofs.StepLemmas.{IsOf, made_of, own_mark, gives_after, rows_after, next_after}
 use Rattle.bdb_val.proofs.VisitLemmas.{link_is_shorter, no_loop}
@@ -113,10 +115,6 @@ place_elsewhere q v (x ∷ xs) a = or_from (same_text (at_place q) (at_place x))
 all_places : (P : List ℕ → Type 0) (Q : ValKey × Option Mark → Type 0) → ((x : ValKey × Option Mark) → Q x → P (at_place x)) → (xs : List (ValKey × Option Mark)) → AllByRecursion Q xs → AllByRecursion P (map at_place xs)
 all_places P Q h [] a = tt
 all_places P Q h (x ∷ xs) a = (h x a.0, all_places P Q h xs a.1)
-
-all_append : {X : Type 0} (P : X → Type 0) (xs ys : List X) → AllByRecursion P xs → AllByRecursion P ys → AllByRecursion P (xs ++ ys)
-all_append P [] ys a b = b
-all_append P (x ∷ xs) ys a b = (a.0, all_append P xs ys a.1 b)
 
 all_weaker : {X : Type 0} (P Q : X → Type 0) → ((x : X) → P x → Q x) → (xs : List X) → AllByRecursion P xs → AllByRecursion Q xs
 all_weaker P Q h [] a = tt
@@ -206,7 +204,7 @@ module _ (keys : ℕ → ℕ) (stmts : List Stmt) (ns : Names) (tuple : ℕ → 
     (f : ValKey → Option Mark) (t : Tables) (start : ℕ) (h : IsUnsettled keys stmts ns tuple f t start test) where
   -- the path of the world at which the walk begins
   pub root : (w : List ℕ) × (path_of ns start ≡ Some w)
-  root = some_is (path_of ns start) h.named
+  root = some_of (path_of ns start) h.named
 
   -- What holds in the middle of a walk: no world comes twice, each but the first is linked to one that was visited, none has
   -- a shorter name than the first, and the places of the changes are those where the tables differ.
@@ -362,7 +360,7 @@ module _ (keys : ℕ → ℕ) (stmts : List Stmt) (ns : Names) (tuple : ℕ → 
   walk_once _ _ _ _ _ (next u v wid left more made put taken walked s l) =
       let way = walk_on_way keys stmts ns tuple test prefix names spans group f t start h u (wid ∷ left) made put taken walked in
       let after = walk_on_way keys stmts ns tuple test prefix names spans group f t start h v (left ++ more) (made ++ changes_of s) (put + put_by s) (taken + taken_by s) (next u v wid left more made put taken walked s l) in
-      let named = some_is (path_of ns wid) (way.named wid (or_left (nat_eq wid wid) (is_listed wid left) (eq-eqb wid wid refl))) in
+      let named = some_of (path_of ns wid) (way.named wid (or_left (nat_eq wid wid) (is_listed wid left) (eq-eqb wid wid refl))) in
       let n = way.explicit.sized wid named.0 named.1 in
       let k = walk_once u (wid ∷ left) made put taken walked in
       elim l [
@@ -376,7 +374,7 @@ module _ (keys : ℕ → ℕ) (stmts : List Stmt) (ns : Names) (tuple : ℕ → 
 pub tells_from : (old new : Seen) (made : List (ValKey × Option Mark)) (put taken : ℕ) → AreDifferences (tables.get old.kept) (tables.get new.kept) (map at_place made) → Rises (length made) old.writes new.writes
     → put ≡ counted (length (filter (has_none old.kept) (map at_place made))) → taken ≡ counted (length (filter (has_none new.kept) (map at_place made))) → TellsDifferences old new put taken
 tells_from old new made put taken k rises a b ps d = record {
-  writes = subst (λ n. Rises n old.writes new.writes) (sym (differences_are_counted (tables.get old.kept) (tables.get new.kept) ps (map at_place made) d k ∙ length_mapped at_place made)) rises;
+  writes = subst (λ n. Rises n old.writes new.writes) (sym (differences_are_counted (tables.get old.kept) (tables.get new.kept) ps (map at_place made) d k ∙ length_map at_place made)) rises;
   came = a ∙ ap counted (filtered_are_counted (tables.get old.kept) (tables.get new.kept) (has_none old.kept) (map at_place made) ps k d);
   went = b ∙ ap counted (filtered_are_counted (tables.get old.kept) (tables.get new.kept) (has_none new.kept) (map at_place made) ps k d);
 }

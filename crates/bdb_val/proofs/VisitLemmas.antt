@@ -10,8 +10,10 @@ use Rattle.bdb_base.specs.declared.tuple.Tuple.{Tuple}
 use Rattle.bdb_base.specs.SameLemmas.{same_sign-Decides}
 use Rattle.bdb_base.specs.States.{deepest_suffix, suffix_link}
 use Rattle.bdb_base.specs.Worlds.{contradicted}
+use Rattle.bdb_base.proofs.OptionLemmas.{none_is_some, same_some}
 use Rattle.bdb_paths.proofs.SuffixLemmas.{length-deepest}
 use Rattle.bdb_keep.specs.Tables.{Tables}
+use Rattle.bdb_keep.proofs.RowsLemmas.{same_place}
 use Rattle.bdb_key.specs.Bytes.{num_bytes}
 use Rattle.bdb_key.specs.Grammar.{IsNum}
 use Rattle.bdb_tables.specs.Codec.{HasAt}
@@ -21,7 +23,6 @@ use Rattle.bdb_tables.specs.Marks.{Mark, sign_of, explicit_of, explicit_sign}
 use Rattle.bdb_tables.specs.Names.{Names, AreNames, path_of, number_of, is_named, link_of, leads_to}
 use Rattle.bdb_tables.specs.States.{row_where}
 use Rattle.bdb_tables.specs.Writes.{Gives, with_row_at, with_rows_at}
-use Rattle.bdb_tables.proofs.Held.{same_place, some_same, none_some}
 use Rattle.bdb_tables.proofs.WriteLemmas.{changes_elsewhere}
 use Rattle.bdb_val.specs.Groups.{HasLinks}
 use Rattle.bdb_val.specs.Middle.{worlds_of, HasExplicit, IsSettledAt}
@@ -30,7 +31,7 @@ use Rattle.bdb_val.specs.Settled.{settled_mark, passed_on, sign_at}
 use Rattle.bdb_val.specs.Settling.{RowChange, mark_in, settling, last_mark, IsGroup, row_key, keyed}
 use Rattle.bdb_val.specs.Steps.{AreSpans, same_signs, turns}
 use Rattle.bdb_val.specs.Walks.{IsVisit, IsQuiet, changes_of}
-use Rattle.bdb_val.specs.declared.stored.Stored.{Stored}
+use Rattle.bdb_val.specs.declared.stored.StoredRow.{StoredRow}
 use Rattle.bdb_val.proofs.HeldLemmas.{names_are_linked}
 use Rattle.bdb_val.proofs.ReadLemmas.{one_number, key_fits}
 use Rattle.bdb_val.proofs.StepLemmas.{IsOf, after_changes, other_rows, made_of, own_mark, gives_after, settled_after}
@@ -43,12 +44,12 @@ link_read ns t h wid n None e = none (link_of ns wid) (sym (h.link.rows wid n) �
   where
     none : (o : Option ℕ) → option_map num_bytes o ≡ None → None ≡ o
     none None e = refl
-    none (Some m) e = absurd (none_some (num_bytes m) (sym e))
+    none (Some m) e = absurd (none_is_some (num_bytes m) (sym e))
 link_read ns t h wid n (Some m) e = one (link_of ns wid) (h.link.written wid n) (sym (h.link.rows wid n) ∙ e.found)
   where
     one : (o : Option ℕ) → MatchOption o (Unit {0}) IsNum → option_map num_bytes o ≡ Some (num_bytes m) → Some m ≡ o
-    one None w e = absurd (none_some (num_bytes m) e)
-    one (Some k) w f = ap Some (number_rows_are_one m k e.in_grammar w (sym (some_same (num_bytes k) (num_bytes m) f)))
+    one None w e = absurd (none_is_some (num_bytes m) e)
+    one (Some k) w f = ap Some (number_rows_are_one m k e.in_grammar w (sym (same_some (num_bytes k) (num_bytes m) f)))
 
 link_fits : (ns : Names) (t : Tables) → HasLinks ns t → (wid : ℕ) → IsNum wid → MatchOption (link_of ns wid) (Unit {0}) IsNum
 link_fits ns t h wid n = h.link.written wid n
@@ -146,7 +147,7 @@ last_sign (c ∷ cs) tid m z a e = last_sign cs tid (cond (nat_eq c.0 tid) c.2 m
   | inr k ↦ ap sign_of (cond-false (nat_eq c.0 tid) c.2 m k) ∙ e
 ])
 
-quiet_each : (keys : ℕ → ℕ) (wid : ℕ) (own : List Stored) (cs : List RowChange) → list_any (turns (mark_in own)) (map (keyed keys wid) cs) ≡ false → (tid : ℕ)
+quiet_each : (keys : ℕ → ℕ) (wid : ℕ) (own : List StoredRow) (cs : List RowChange) → list_any (turns (mark_in own)) (map (keyed keys wid) cs) ≡ false → (tid : ℕ)
     → AllByRecursion (λ c. nat_eq c.0 tid ≡ true → sign_of c.2 ≡ sign_of (mark_in own tid)) cs
 quiet_each keys wid own [] q tid = tt
 quiet_each keys wid own (c ∷ cs) q tid =

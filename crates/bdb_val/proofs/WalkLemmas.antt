@@ -1,5 +1,5 @@
 -- After a walk all rows are settled.
-use Rattle.std.proofs.Common.{◌≡◌, ◌∙◌, ℕ, Bool, true, false, not, ◌&&◌, ◌||◌, nat_eq, List, [], ◌∷◌, ◌++◌, ◌⊎◌, Option, Some, None, cond, inl, inr, is_some, map, refl, ap, sym, subst}
+use Rattle.std.proofs.Common.{◌≡◌, ◌∙◌, ℕ, Bool, true, false, not, ◌&&◌, ◌||◌, nat_eq, List, [], ◌∷◌, ◌++◌, ◌⊎◌, Option, Some, cond, inl, inr, is_some, map, refl, ap, sym, subst}
 use Rattle.std.specs.List.{AllByRecursion}
 use Rattle.std.specs.Option.{option_map}
 use Rattle.std.specs.Ordering.{is_eq, eq_by_cmp}
@@ -14,7 +14,9 @@ use Rattle.bdb_base.specs.Clash.{same_key, key_of}
 use Rattle.bdb_base.specs.Same.{same_values, same_tuple}
 use Rattle.bdb_base.specs.SameLemmas.{same_tuple-Decides, same_values-Decides}
 use Rattle.bdb_base.specs.Segments.{is_prefix}
+use Rattle.bdb_base.proofs.OptionLemmas.{some_of}
 use Rattle.bdb_keep.specs.Tables.{Tables, bytes_cmp}
+use Rattle.bdb_keep.proofs.RowsLemmas.{same_place}
 use Rattle.bdb_key.specs.Bytes.{num_bytes}
 use Rattle.bdb_key.specs.Grammar.{IsNum, AreKeyVals}
 use Rattle.bdb_key.proofs.Forms.{tied}
@@ -28,8 +30,8 @@ use Rattle.bdb_tables.specs.Spans.{IsUnder, entry_bytes}
 use Rattle.bdb_tables.specs.States.{row_where}
 use Rattle.bdb_tables.specs.Writes.{with_row_at, with_rows_at}
 use Rattle.bdb_tables.specs.GroupMarks.{group_bytes}
-use Rattle.bdb_tables.proofs.Held.{same_place}
 use Rattle.bdb_tables.proofs.ListLemmas.{prefix_append, prefix_rest}
+use Rattle.bdb_tables.proofs.Held.{leads_is, leads_self}
 use Rattle.bdb_val.specs.Groups.{HasLinks, IsUnsettled}
 use Rattle.bdb_val.specs.Middle.{worlds_of, HasExplicit, IsSettledAt, AreSettledBut}
 use Rattle.bdb_val.specs.Reads.{is_of_group}
@@ -37,7 +39,7 @@ use Rattle.bdb_val.specs.Settling.{IsGroup}
 use Rattle.bdb_val.specs.Steps.{AreSpans}
 use Rattle.bdb_val.specs.Walks.{AreLinkedTo, IsVisit, IsQuiet, Walked, changes_of}
 use Rattle.bdb_val.specs.Walks.Walked.{first, next}
-use Rattle.bdb_val.proofs.HeldLemmas.{some_is, settled_rows_are_held}
+use Rattle.bdb_val.proofs.HeldLemmas.{settled_rows_are_held}
 use Rattle.bdb_val.proofs.ReadLemmas.{group_span}
 use Rattle.bdb_val.proofs.VisitLemmas.{linked_is_named, links_after, explicit_after, settled_here, settled_there, settled_other, quiet_signs}
 
@@ -58,18 +60,11 @@ link_found (e ∷ es) all k = (
     later true o s = refl
     later false o s = s
 
-pub leads_tells : (o : Option ℕ) (n : ℕ) → leads_to o n ≡ true → o ≡ Some n
-leads_tells None n e = absurd (false≢true e)
-leads_tells (Some m) n e = ap Some (eqb-true m n e)
-
-leads_from : (o : Option ℕ) (n : ℕ) → o ≡ Some n → leads_to o n ≡ true
-leads_from o n e = ap (λ p. leads_to p n) e ∙ eq-eqb n n refl
-
 -- a world linked to a world is listed
 linked_is_listed : (ns : Names) (t : Tables) → HasLinks ns t → (wid : ℕ) (more : List ℕ) → IsNum wid → AreLinkedTo t wid more → (m : ℕ) → IsNum m → link_of ns m ≡ Some wid → is_listed m more ≡ true
 linked_is_listed ns t h wid more w l m n e =
     let pair : IsPair (wid, m) = record { first = w; second = n } in
-    let row : row_where (leads_to (link_of ns m) wid) ≡ Some tt = ap row_where (leads_from (link_of ns m) wid e) in
+    let row : row_where (leads_to (link_of ns m) wid) ≡ Some tt = ap row_where (leads_self (link_of ns m) wid e) in
     let there : is_some (links_at l.entries (pair_bytes (wid, m))) ≡ true =
     ap is_some (sym (l.under.found (pair_bytes (wid, m)) (prefix_append (num_bytes wid) (num_bytes m))) ∙ h.linked.rows (wid, m) pair ∙ ap (option_map (λ _. [])) row) in
     ap (is_listed m) l.listed ∙ go l.entries l.under.each there
@@ -105,7 +100,7 @@ listed_is_linked ns t h wid more l m s = go l.entries l.under.each (link_found l
       | inl c ↦
           let i = eqb-true m d.0.1 c in
           let k = stands (leads_to (link_of ns d.0.1) d.0.0) (links_at l.entries (pair_bytes d.0)) (sym (h.linked.rows d.0 a.0.key) ∙ l.under.found (pair_bytes d.0) a.0.begins) b.0 in
-          (d.0.0, ap (link_of ns) i ∙ leads_tells (link_of ns d.0.1) d.0.0 k, λ n. first_is wid n d.0 a.0.key a.0.begins)
+          (d.0.0, ap (link_of ns) i ∙ leads_is (link_of ns d.0.1) d.0.0 k, λ n. first_is wid n d.0 a.0.key a.0.begins)
       | inr c ↦ go ds a.1 b.1 c
     ]
 
@@ -127,7 +122,7 @@ module _ (keys : ℕ → ℕ) (stmts : List Stmt) (ns : Names) (tuple : ℕ → 
   more_named t h wid more l m e = let k = listed_is_linked ns t h wid more l m e in linked_is_named ns m k.0 k.1
 
   not_linked : (h : Tables) (m wid : ℕ) → leads_to (link_of ns m) wid ≡ false → link_of ns m ≡ Some wid → ⊥
-  not_linked h m wid e k = false≢true (sym e ∙ leads_from (link_of ns m) wid k)
+  not_linked h m wid e k = false≢true (sym e ∙ leads_self (link_of ns m) wid k)
 
   not_same : (m wid : ℕ) → nat_eq m wid ≡ false → m ≡ wid → ⊥
   not_same m wid e k = false≢true (sym e ∙ eq-eqb m wid k)
@@ -135,7 +130,7 @@ module _ (keys : ℕ → ℕ) (stmts : List Stmt) (ns : Names) (tuple : ℕ → 
   first_visit : (f : ValKey → Option Mark) (t u : Tables) (wid : ℕ) (more : List ℕ) → IsUnsettled keys stmts ns tuple f t wid test → (s : IsVisit keys prefix t u wid) → AreLinkedTo u wid more
       → IsOnWay (with_rows_at val_codec f (changes_of s)) u more
   first_visit f t u wid more h s l =
-      let w = some_is (path_of ns wid) h.named in
+      let w = some_of (path_of ns wid) h.named in
       let links = links_after keys stmts ns tuple test prefix names spans group f t u h.explicit h.links wid w.0 w.1 s in
       record {
         explicit = explicit_after keys stmts ns tuple test prefix names spans group f t u h.explicit h.links wid w.0 w.1 s;
@@ -148,7 +143,7 @@ module _ (keys : ℕ → ℕ) (stmts : List Stmt) (ns : Names) (tuple : ℕ → 
                 (settled_here keys stmts ns tuple test prefix names spans group f t u h.explicit h.links wid w.0 w.1 s tid x p e)
             | inr c ↦ elim (cases_Bool (leads_to (link_of ns m) wid)) [
               | inl d ↦ λ q a.
-                  let here = linked_is_listed ns u links wid more (h.explicit.sized wid w.0 w.1) l m (h.explicit.sized m q a) (leads_tells (link_of ns m) wid d) in
+                  let here = linked_is_listed ns u links wid more (h.explicit.sized wid w.0 w.1) l m (h.explicit.sized m q a) (leads_is (link_of ns m) wid d) in
                   absurd (true≢false (sym (and_from (test x) (is_listed m more) e here) ∙ out))
               | inr d ↦ settled_there keys stmts ns tuple test prefix names spans group f t u h.explicit h.links wid w.0 w.1 s m tid x p (not_same m wid c)
                   (λ k. absurd (not_linked t m wid d k))
@@ -164,7 +159,7 @@ module _ (keys : ℕ → ℕ) (stmts : List Stmt) (ns : Names) (tuple : ℕ → 
   next_visit : (g : ValKey → Option Mark) (u v : Tables) (wid : ℕ) (left more : List ℕ) → IsOnWay g u (wid ∷ left) → (s : IsVisit keys prefix u v wid)
       → ((more ≡ []) × IsQuiet s) ⊎ AreLinkedTo v wid more → IsOnWay (with_rows_at val_codec g (changes_of s)) v (left ++ more)
   next_visit g u v wid left more h s l =
-      let w = some_is (path_of ns wid) (h.named wid (or_left (nat_eq wid wid) (is_listed wid left) (eq-eqb wid wid refl))) in
+      let w = some_of (path_of ns wid) (h.named wid (or_left (nat_eq wid wid) (is_listed wid left) (eq-eqb wid wid refl))) in
       let links = links_after keys stmts ns tuple test prefix names spans group g u v h.explicit h.links wid w.0 w.1 s in
       record {
         explicit = explicit_after keys stmts ns tuple test prefix names spans group g u v h.explicit h.links wid w.0 w.1 s;

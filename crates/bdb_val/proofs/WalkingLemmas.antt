@@ -7,6 +7,7 @@ use Rattle.bdb_base.specs.Causes.{Rises}
 use Rattle.bdb_base.specs.declared.kinds.Stmt.{Stmt}
 use Rattle.bdb_base.specs.declared.kinds.Value.{Value}
 use Rattle.bdb_base.specs.declared.tuple.Tuple.{Tuple}
+use Rattle.bdb_base.proofs.AllLemmas.{all_append}
 use Rattle.bdb_keep.specs.Seen.{Seen}
 use Rattle.bdb_keep.specs.Tables.{Tables}
 use Rattle.bdb_key.specs.Grammar.{IsNum, AreKeyVals}
@@ -33,7 +34,6 @@ use Rattle.bdb_val.proofs.Calls.{HasGone, gone_then}
 use Rattle.bdb_val.proofs.LinkLemmas.{IsLink, worlds_with, linked_to, links_are, still_link}
 use Rattle.bdb_val.proofs.OtherLemmas.{is_rows}
 use Rattle.bdb_val.proofs.ReadLemmas.{group_span}
-use Rattle.bdb_val.proofs.SettlingLemmas.{all_append}
 use Rattle.bdb_val.proofs.WalkLemmas.{is_group, walk_on_way}
 
 -- how far a walk has come: its changes are made, each by one write

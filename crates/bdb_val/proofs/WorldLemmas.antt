@@ -21,9 +21,12 @@ use Rattle.bdb_base.specs.SameLemmas.{same_tuple-Decides}
 use Rattle.bdb_base.specs.SortedSet.{ascending}
 use Rattle.bdb_base.specs.WorldRows.{same_row, has_row, row_tuple_cmp, world_of}
 use Rattle.bdb_base.specs.Worlds.{explicit, stated, IsConsistent}
-use Rattle.bdb_base.proofs.ListLemmas.{filter_kept_one, filter_dropped_one}
+use Rattle.bdb_base.proofs.ListLemmas.{filter_kept_one, filter_dropped_one, length_map}
 use Rattle.bdb_base.proofs.WorldLemmas.{worlds_are_consistent, stated_tuples_are_explicit}
 use Rattle.bdb_base.proofs.WorldRowsLemmas.{same_row_tells, same_row_from, rows_are_the_world, tuples_stand_once}
+use Rattle.bdb_base.proofs.SetLemmas.{is_lt-Less}
+use Rattle.bdb_base.proofs.OptionLemmas.{some_of, none_and_some, one_there}
+use Rattle.bdb_base.proofs.BoolLemmas.{same_tests}
 use Rattle.bdb_keep.specs.Tables.{Tables}
 use Rattle.bdb_key.specs.Grammar.{IsNum}
 use Rattle.bdb_tables.specs.InUse.{ValKey}
@@ -33,10 +36,9 @@ use Rattle.bdb_tables.specs.Rows.{AreKeyLengths, Tuples, HoldsTuples, HoldsRows,
 use Rattle.bdb_val.specs.Reads.{HasRows, AreReadUnder, world_prefix}
 use Rattle.bdb_val.specs.Settling.{mark_in, AreNamed, are_apart}
 use Rattle.bdb_val.specs.WorldReads.{held_row, is_before, AreInOrder, AreRowsAt}
-use Rattle.bdb_val.specs.declared.stored.Stored.{Stored}
-use Rattle.bdb_val.proofs.HeldLemmas.{some_is, held_names, right_row}
+use Rattle.bdb_val.specs.declared.stored.StoredRow.{StoredRow}
+use Rattle.bdb_val.proofs.HeldLemmas.{held_names, right_row}
 use Rattle.bdb_val.proofs.ReadLemmas.{read_named, read_apart, read_mark, world_span}
-use Rattle.bdb_val.proofs.RealLemmas.{length_mapped}
 use Rattle.bdb_val.proofs.StepLemmas.{mark_of_each}
 
 -- ---- two lists of rows by tuple with the same rows are one
@@ -53,13 +55,8 @@ above_has x (y ∷ ys) h a e =
 not_before_itself : (t : Tuple) → is_lt (tuple_cmp t t) ≡ true → ⊥
 not_before_itself t e = true≢false (sym e ∙ ap is_lt (tied_itself tuple_total t))
 
-is_lt_less : (r : Ordering) → is_lt r ≡ true → r ≡ Less
-is_lt_less Less e = refl
-is_lt_less Equal e = absurd (false≢true e)
-is_lt_less Greater e = absurd (false≢true e)
-
 not_both : (t u : Tuple) → is_lt (tuple_cmp t u) ≡ true → is_lt (tuple_cmp u t) ≡ true → ⊥
-not_both t u a b = true≢false (sym a ∙ ap is_lt (tuple_total.antisymm t u ∙ ap ordering_reverse (is_lt_less (tuple_cmp u t) b)))
+not_both t u a b = true≢false (sym a ∙ ap is_lt (tuple_total.antisymm t u ∙ ap ordering_reverse (is_lt-Less (tuple_cmp u t) b)))
 
 row_itself : (h : Held) → same_row h h ≡ true
 row_itself h = same_row_from h h refl refl refl
@@ -156,9 +153,6 @@ order_ascends (x ∷ xs) far once =
 
 -- ---- marks and signs
 
-none_some : {X : Type 0} (x : X) (o : Option X) → o ≡ None → o ≡ Some x → ⊥
-none_some x o a b = cc
-
 -- a mark is that of a tuple exactly where the world has it so
 pub mark_tells : (keys : ℕ → ℕ) (stmts : List Stmt) (w : List ℕ) (u : Tuple) (m : Mark) → mark_of keys stmts w u ≡ Some m → (stated keys stmts w u m.0 ≡ true) × (m.1 ≡ explicit stmts w u m.0)
 mark_tells keys stmts w u m e = go (stated keys stmts w u Plus) (stated keys stmts w u Minus) refl refl e
@@ -177,7 +171,7 @@ mark_tells keys stmts w u m e = go (stated keys stmts w u Plus) (stated keys stm
         → (stated keys stmts w u m.0 ≡ true) × (m.1 ≡ explicit stmts w u m.0)
     go true q a b k = by Plus a (sym (ap (λ x. marked (explicit stmts w u) (sign_by x (stated keys stmts w u Minus))) a) ∙ k)
     go false true a b k = by Minus b (sym (ap (λ x. marked (explicit stmts w u) (sign_by x (stated keys stmts w u Minus))) a ∙ ap (λ x. marked (explicit stmts w u) (sign_by false x)) b) ∙ k)
-    go false false a b k = absurd (none_some m None refl (sym (ap (λ x. marked (explicit stmts w u) (sign_by x (stated keys stmts w u Minus))) a ∙ ap (λ x. marked (explicit stmts w u) (sign_by false x)) b) ∙ k))
+    go false false a b k = absurd (none_and_some m None refl (sym (ap (λ x. marked (explicit stmts w u) (sign_by x (stated keys stmts w u Minus))) a ∙ ap (λ x. marked (explicit stmts w u) (sign_by false x)) b) ∙ k))
 
 pub mark_has : (keys : ℕ → ℕ) (stmts : List Stmt) (w : List ℕ) (u : Tuple) (s : Sign) → IsConsistent keys stmts → stated keys stmts w u s ≡ true → mark_of keys stmts w u ≡ Some (s, explicit stmts w u s)
 mark_has keys stmts w u Plus c e = ap (λ x. marked (explicit stmts w u) (sign_by x (stated keys stmts w u Minus))) e
@@ -188,15 +182,12 @@ mark_has keys stmts w u Minus c e =
 
 -- ---- the rows that are read
 
-has_mapped : (xs : List Stored) (h : Held) → has_row (map held_row xs) h ≡ list_any (λ x. same_row h (held_row x)) xs
+has_mapped : (xs : List StoredRow) (h : Held) → has_row (map held_row xs) h ≡ list_any (λ x. same_row h (held_row x)) xs
 has_mapped [] h = refl
 has_mapped (x ∷ xs) h = ap (λ b. same_row h (held_row x) || b) (has_mapped xs h)
 
-one_number : (a b : ℕ) (o : Option ℕ) → o ≡ Some a → o ≡ Some b → a ≡ b
-one_number a b o p q = cc
-
 -- where numbers stand once, tuples do
-tuples_once : (ts : Tuples) → ((tid : ℕ) (u : Tuple) → ts.tuple tid ≡ Some u → ts.number u ≡ Some tid) → (xs : List Stored) → AreNamed ts.tuple xs → are_apart xs ≡ true
+tuples_once : (ts : Tuples) → ((tid : ℕ) (u : Tuple) → ts.tuple tid ≡ Some u → ts.number u ≡ Some tid) → (xs : List StoredRow) → AreNamed ts.tuple xs → are_apart xs ≡ true
     → (u : Tuple) → length (filter (λ h. same_tuple h.tuple u) (map held_row xs)) ≤ 1
 tuples_once ts named [] n a u = omega arith
 tuples_once ts named (x ∷ xs) n a u =
@@ -218,13 +209,13 @@ tuples_once ts named (x ∷ xs) n a u =
     apart_here true q e = absurd (false≢true e)
     apart_here false q e = q
 
-    none : (ys : List Stored) → AreNamed ts.tuple ys → list_any (λ y. nat_eq y.tid x.tid) ys ≡ false → same_tuple x.tuple u ≡ true → length (filter (λ h. same_tuple h.tuple u) (map held_row ys)) ≤ 0
+    none : (ys : List StoredRow) → AreNamed ts.tuple ys → list_any (λ y. nat_eq y.tid x.tid) ys ≡ false → same_tuple x.tuple u ≡ true → length (filter (λ h. same_tuple h.tuple u) (map held_row ys)) ≤ 0
     none [] m q e = omega arith
     none (y ∷ ys) m q e =
         let p = or_parts (nat_eq y.tid x.tid) (list_any (λ z. nat_eq z.tid x.tid) ys) q in
         let other : same_tuple y.tuple u ≡ false = false_from_ne_true (same_tuple y.tuple u) (λ k.
         let same : y.tuple ≡ x.tuple = (same_tuple-Decides y.tuple u).0 k ∙ sym ((same_tuple-Decides x.tuple u).0 e) in
-        false≢true (sym p.0 ∙ eq-eqb y.tid x.tid (one_number y.tid x.tid (ts.number x.tuple) (ap ts.number (sym same) ∙ named y.tid y.tuple m.0) (named x.tid x.tuple n.0)))) in
+        false≢true (sym p.0 ∙ eq-eqb y.tid x.tid (one_there y.tid x.tid (ts.number x.tuple) (ap ts.number (sym same) ∙ named y.tid y.tuple m.0) (named x.tid x.tuple n.0)))) in
         let k : length (filter (λ h. same_tuple h.tuple u) (map held_row (y ∷ ys))) ≡ length (filter (λ h. same_tuple h.tuple u) (map held_row ys)) = ap length (filter_dropped_one (λ h. same_tuple h.tuple u) (held_row y) (map held_row ys) other) in
         let r = none ys m.1 p.1 e in omega (arith, k, r)
 
@@ -232,7 +223,7 @@ filtered_moved : (p : Held → Bool) (xs ys : List Held) → IsPermutation xs ys
 filtered_moved p xs ys h = length-filter p ys ∙ sum_by-IsPermutation (λ x. cond (p x) 1 0) xs ys h ∙ sym (length-filter p xs)
 
 module _ (keys : ℕ → ℕ) (stmts : List Stmt) (ns : Names) (ts : Tuples) (t : Tables) (lengths : AreKeyLengths keys) (consistent : IsConsistent keys stmts) (h : HoldsTuples stmts ts t) (r : HoldsRows keys stmts (path_of ns) ts.tuple t)
-    (wid : ℕ) (n : IsNum wid) (w : List ℕ) (path : path_of ns wid ≡ Some w) (xs : List Stored) (read : AreReadUnder t (world_prefix wid) xs) where
+    (wid : ℕ) (n : IsNum wid) (w : List ℕ) (path : path_of ns wid ≡ Some w) (xs : List StoredRow) (read : AreReadUnder t (world_prefix wid) xs) where
   abbrev f : ValKey → Option Mark
   f = row_for keys stmts (path_of ns) ts.tuple
 
@@ -250,7 +241,7 @@ module _ (keys : ℕ → ℕ) (stmts : List Stmt) (ns : Names) (ts : Tuples) (t 
   mark_right tid u e = read_mark keys ts.tuple f t rows wid (λ _. true) (world_prefix wid) xs n (world_span keys wid n) read tid u e refl ∙ right_row keys stmts stmts ns ts t h wid w tid u path e
 
   -- each row that is read is one of the world
-  read_are_rows : (ys : List Stored) → AreNamed ts.tuple ys → AllByRecursion (λ x. mark_in xs x.tid ≡ Some x.mark) ys → (g : Held) → list_any (λ x. same_row g (held_row x)) ys ≡ true
+  read_are_rows : (ys : List StoredRow) → AreNamed ts.tuple ys → AllByRecursion (λ x. mark_in xs x.tid ≡ Some x.mark) ys → (g : Held) → list_any (λ x. same_row g (held_row x)) ys ≡ true
       → has_row (world_of keys stmts w) g ≡ true
   read_are_rows [] a b g e = absurd (false≢true e)
   read_are_rows (y ∷ ys) a b g e = elim (or_cases (same_row g (held_row y)) (list_any (λ x. same_row g (held_row x)) ys) e) [
@@ -268,7 +259,7 @@ module _ (keys : ℕ → ℕ) (stmts : List Stmt) (ns : Names) (ts : Tuples) (t 
   row_is_read : (g : Held) → has_row (world_of keys stmts w) g ≡ true → list_any (λ x. same_row g (held_row x)) xs ≡ true
   row_is_read g e =
       let is = (rows_are_the_world keys stmts w g).0 e in
-      let number = some_is (ts.number g.tuple) (h.stated g.tuple ∙ stated_tuples_are_explicit keys stmts w g.tuple g.sign is.0) in
+      let number = some_of (ts.number g.tuple) (h.stated g.tuple ∙ stated_tuples_are_explicit keys stmts w g.tuple g.sign is.0) in
       let tuple = h.numbered g.tuple number.0 number.1 in
       let mark : mark_in xs number.0 ≡ Some (g.sign, g.explicit) =
       mark_right number.0 g.tuple tuple ∙ mark_has keys stmts w g.tuple g.sign consistent is.0 ∙ ap (λ (b : Bool). Some (g.sign, b)) (sym is.1) in
@@ -280,8 +271,8 @@ module _ (keys : ℕ → ℕ) (stmts : List Stmt) (ns : Names) (ts : Tuples) (t 
       some_tuple : (a b : Tuple) (o : Option Tuple) → o ≡ Some a → o ≡ Some b → a ≡ b
       some_tuple a b o p q = cc
 
-      go : (ys : List Stored) → AreNamed ts.tuple ys → (tid : ℕ) → ts.tuple tid ≡ Some g.tuple → mark_in ys tid ≡ Some (g.sign, g.explicit) → list_any (λ x. same_row g (held_row x)) ys ≡ true
-      go [] a tid q k = absurd (none_some (g.sign, g.explicit) None refl k)
+      go : (ys : List StoredRow) → AreNamed ts.tuple ys → (tid : ℕ) → ts.tuple tid ≡ Some g.tuple → mark_in ys tid ≡ Some (g.sign, g.explicit) → list_any (λ x. same_row g (held_row x)) ys ≡ true
+      go [] a tid q k = absurd (none_and_some (g.sign, g.explicit) None refl k)
       go (y ∷ ys) a tid q k = elim (cases_Bool (nat_eq y.tid tid)) [
         | inl c ↦
             let mark : y.mark ≡ (g.sign, g.explicit) = some_mark y.mark (g.sign, g.explicit) (sym (cond-true (nat_eq y.tid tid) (Some y.mark) (mark_in ys tid) c) ∙ k) in
@@ -291,11 +282,6 @@ module _ (keys : ℕ → ℕ) (stmts : List Stmt) (ns : Names) (ts : Tuples) (t 
         | inr c ↦ or_right (same_row g (held_row y)) (list_any (λ x. same_row g (held_row x)) ys)
             (go ys a.1 tid q (sym (cond-false (nat_eq y.tid tid) (Some y.mark) (mark_in ys tid) c) ∙ k))
       ]
-
-  same_bits : (a b : Bool) → (a ≡ true → b ≡ true) → (b ≡ true → a ≡ true) → a ≡ b
-  same_bits true b p q = sym (p refl)
-  same_bits false true p q = absurd (false≢true (q refl))
-  same_bits false false p q = refl
 
   -- rows that are read, in order, are the world
   pub ordered_is_world : (held : List Held) → AreInOrder xs held → held ≡ world_of keys stmts w
@@ -308,13 +294,13 @@ module _ (keys : ℕ → ℕ) (stmts : List Stmt) (ns : Names) (ts : Tuples) (t 
       omega (arith, e, le)))
       (tuples_stand_once keys stmts consistent w)
       (λ g. sym (list_any-IsPermutation (same_row g) (map held_row xs) held o.moved) ∙ has_mapped xs g
-      ∙ same_bits (list_any (λ x. same_row g (held_row x)) xs) (has_row (world_of keys stmts w) g)
+      ∙ same_tests (list_any (λ x. same_row g (held_row x)) xs) (has_row (world_of keys stmts w) g)
       (read_are_rows xs named (mark_of_each xs xs (λ _ _ k. k) apart) g) (row_is_read g))
 
 -- what is read of a world, in order, are the rows of the world of its path
-pub read_is_world : (t : Tables) (wid : ℕ) (xs : List Stored) (held : List Held) → IsNum wid → AreReadUnder t (world_prefix wid) xs → AreInOrder xs held → AreRowsAt t wid held
+pub read_is_world : (t : Tables) (wid : ℕ) (xs : List StoredRow) (held : List Held) → IsNum wid → AreReadUnder t (world_prefix wid) xs → AreInOrder xs held → AreRowsAt t wid held
 read_is_world t wid xs held n read o keys stmts ns ts w lengths consistent names h r path = ordered_is_world keys stmts ns ts t lengths consistent h r wid n w path xs read held o
 
 -- as many rows are shown as were read
-pub read_within : (a b : ℕ) (xs : List Stored) (held : List Held) → AreInOrder xs held → b ≤ a + (2 * length xs + 1) → b ≤ a + (2 * length held + 1)
-read_within a b xs held o le = subst (λ n. b ≤ a + (2 * n + 1)) (sym (length_permutation (map held_row xs) held o.moved ∙ length_mapped held_row xs)) le
+pub read_within : (a b : ℕ) (xs : List StoredRow) (held : List Held) → AreInOrder xs held → b ≤ a + (2 * length xs + 1) → b ≤ a + (2 * length held + 1)
+read_within a b xs held o le = subst (λ n. b ≤ a + (2 * n + 1)) (sym (length_permutation (map held_row xs) held o.moved ∙ length_map held_row xs)) le

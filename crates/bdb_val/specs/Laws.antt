@@ -18,7 +18,7 @@ use Rattle.bdb_keep.specs.Seen.{Seen}
 use Rattle.bdb_base.specs.declared.kinds.Value.{Value}
 use Rattle.bdb_val.specs.Steps.{IsStep, WritesDifferences}
 use Rattle.bdb_val.specs.declared.stored.SettledWorld.{SettledWorld}
-use Rattle.bdb_val.specs.declared.stored.Stored.{Stored}
+use Rattle.bdb_val.specs.declared.stored.StoredRow.{StoredRow}
 
 -- where no two statements of one path clash and all rows of a tuple are settled, they are the rows of the worlds
 abbrev pub SettledRowsAreRight : Type 0
@@ -34,28 +34,28 @@ RightRowsAreSettled = (keys : ℕ → ℕ) (stmts : List Stmt) (P : List ℕ →
 
 -- the row that a tuple is to have, by the rows that were read, is the settled one
 abbrev pub NextMarksAreSettled : Type 0
-NextMarksAreSettled = (keys : ℕ → ℕ) (stmts : List Stmt) (tuple : ℕ → Option Tuple) (test : Tuple → Bool) (own from : List Stored) (w : List ℕ)
+NextMarksAreSettled = (keys : ℕ → ℕ) (stmts : List Stmt) (tuple : ℕ → Option Tuple) (test : Tuple → Bool) (own from : List StoredRow) (w : List ℕ)
     → IsConsistent keys stmts → IsGroup keys test → AreNumbered tuple stmts → AreExplicit tuple test stmts w own
     → (tid : ℕ) (t : Tuple) → tuple tid ≡ Some t → test t ≡ true
     → next_mark keys own from tid t ≡ settled_mark (explicit_sign stmts w t) (contradicted keys stmts w t) (sign_of (mark_in from tid))
 
 -- after the changes that settle a world's rows each tuple has the row that it is to have
 abbrev pub SettlingIsRight : Type 0
-SettlingIsRight = (keys : ℕ → ℕ) (tuple : ℕ → Option Tuple) (stored own from : List Stored) → AreNamed tuple stored → AreNamed tuple own → AreNamed tuple from
+SettlingIsRight = (keys : ℕ → ℕ) (tuple : ℕ → Option Tuple) (stored own from : List StoredRow) → AreNamed tuple stored → AreNamed tuple own → AreNamed tuple from
     → (tid : ℕ) (t : Tuple) → tuple tid ≡ Some t → last_mark (settling keys stored own from) tid (mark_in stored tid) ≡ next_mark keys own from tid t
 
 -- rows that are as they are to be need no change
 abbrev pub NoneSettlesTheSettled : Type 0
-NoneSettlesTheSettled = (keys : ℕ → ℕ) (tuple : ℕ → Option Tuple) (stored own from : List Stored) → AreNamed tuple stored → AreNamed tuple own → AreNamed tuple from
+NoneSettlesTheSettled = (keys : ℕ → ℕ) (tuple : ℕ → Option Tuple) (stored own from : List StoredRow) → AreNamed tuple stored → AreNamed tuple own → AreNamed tuple from
     → ((tid : ℕ) (t : Tuple) → tuple tid ≡ Some t → mark_in stored tid ≡ next_mark keys own from tid t) → settling keys stored own from ≡ []
 
 -- no change leaves a row as it was
 abbrev pub SettlingIsReal : Type 0
-SettlingIsReal = (keys : ℕ → ℕ) (stored own from : List Stored) → AllByRecursion (λ x. mark_in stored x.0 ≢ x.2) (settling keys stored own from)
+SettlingIsReal = (keys : ℕ → ℕ) (stored own from : List StoredRow) → AllByRecursion (λ x. mark_in stored x.0 ≢ x.2) (settling keys stored own from)
 
 -- where no number stands twice, none is changed twice
 abbrev pub SettlingIsApart : Type 0
-SettlingIsApart = (keys : ℕ → ℕ) (stored own from : List Stored) → are_apart stored ≡ true → are_apart own ≡ true → are_apart from ≡ true
+SettlingIsApart = (keys : ℕ → ℕ) (stored own from : List StoredRow) → are_apart stored ≡ true → are_apart own ≡ true → are_apart from ≡ true
     → are_changes_apart (settling keys stored own from) ≡ true
 
 -- where the explicit rows are the statements and all rows are settled, the tables hold the rows of the worlds

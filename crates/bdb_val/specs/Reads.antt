@@ -17,27 +17,27 @@ use Rattle.bdb_tables.specs.Writes.{Gives}
 use Rattle.bdb_tables.specs.Marks.{Mark}
 use Rattle.bdb_tables.specs.Rows.{AreKeyLengths}
 use Rattle.bdb_val.specs.Settling.{row_key}
-use Rattle.bdb_val.specs.declared.stored.Stored.{Stored}
+use Rattle.bdb_val.specs.declared.stored.StoredRow.{StoredRow}
 
 -- how the keys of a world's rows begin
 abbrev pub world_prefix : ℕ → List ℕ
 world_prefix wid = num_bytes wid
 
 -- a row with its tuple is one of table 11, whose tuple is that of its number
-pub record IsTold (t : Tables) (e : ValKey × Mark) (x : Stored) : Type 0 where
+pub record IsTold (t : Tables) (e : ValKey × Mark) (x : StoredRow) : Type 0 where
   pub tid : x.tid ≡ e.0.3
   pub mark : x.mark ≡ e.1
   pub tuple : HasRow tuple_codec t x.tid x.tuple
 
 -- rows with their tuples are those of table 11, one by one
-abbrev pub AreTold : Tables → List (ValKey × Mark) → List Stored → Type 0
+abbrev pub AreTold : Tables → List (ValKey × Mark) → List StoredRow → Type 0
 AreTold t [] [] = Unit {0}
 AreTold t [] (x ∷ xs) = ⊥
 AreTold t (e ∷ es) [] = ⊥
 AreTold t (e ∷ es) (x ∷ xs) = IsTold t e x × AreTold t es xs
 
 -- these are the rows, with their tuples, whose keys begin so, in the order of the keys
-pub record AreReadUnder (t : Tables) (prefix : List ℕ) (xs : List Stored) : Type 0 where
+pub record AreReadUnder (t : Tables) (prefix : List ℕ) (xs : List StoredRow) : Type 0 where
   pub entries : List (ValKey × Mark)
   pub under : AreUnder val_codec t prefix entries
   pub told : AreTold t entries xs

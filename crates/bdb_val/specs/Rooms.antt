@@ -14,17 +14,17 @@ abbrev pub MayBegin : List ℕ → ℕ → List Value → Type 0
 MayBegin prefix rel vs = (prefix ≡ []) ⊎ ((wid : ℕ) × BeginsGroup prefix wid rel vs)
 
 -- these are the rows of a group of a world, by the numbers of their tuples
-pub record AreRowsOf (t : Tables) (rel : ℕ) (vs : List Value) (rows : List (ℕ × Mark)) (wid : ℕ) : Type 0 where
+pub record AreRoomRows (t : Tables) (rel : ℕ) (vs : List Value) (rows : List (ℕ × Mark)) (wid : ℕ) : Type 0 where
   pub world : IsNum wid
   pub under : AreUnder val_codec t (group_bytes wid rel vs) (map (in_group wid rel vs) rows)
 
 -- rows that are kept are those of the world that they are from, if any
 abbrev pub AreHanded : Tables → ℕ → List Value → Option ℕ → List (ℕ × Mark) → Type 0
-AreHanded t rel vs from rows = MatchOption from (Unit {0}) (AreRowsOf t rel vs rows)
+AreHanded t rel vs from rows = MatchOption from (Unit {0}) (AreRoomRows t rel vs rows)
 
 -- a row that is kept by a world's number is the only one of the group in that world
 abbrev pub AreSingle : Tables → ℕ → List Value → List (Option (ℕ × Mark)) → Type 0
-AreSingle t rel vs singles = (wid : ℕ) (row : ℕ × Mark) → slice_index_or singles wid None ≡ Some row → AreRowsOf t rel vs (row ∷ []) wid
+AreSingle t rel vs singles = (wid : ℕ) (row : ℕ × Mark) → slice_index_or singles wid None ≡ Some row → AreRoomRows t rel vs (row ∷ []) wid
 
 -- none is kept
 abbrev pub HaveNone : List (Option (ℕ × Mark)) → Type 0

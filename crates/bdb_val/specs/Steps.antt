@@ -16,7 +16,7 @@ use Rattle.bdb_tables.specs.Writes.{with_changes}
 use Rattle.bdb_tables.specs.Differences.{AreDifferences}
 use Rattle.bdb_val.specs.Reads.{AreReadUnder, HasRows, IsSpan}
 use Rattle.bdb_val.specs.Settling.{mark_in, settling, keyed}
-use Rattle.bdb_val.specs.declared.stored.Stored.{Stored}
+use Rattle.bdb_val.specs.declared.stored.StoredRow.{StoredRow}
 use Rattle.bdb_val.specs.declared.stored.SettledWorld.{SettledWorld}
 
 -- in each world a beginning of keys is that of the tuples that pass a test
@@ -24,13 +24,13 @@ abbrev pub AreSpans : (ℕ → ℕ) → (Tuple → Bool) → (ℕ → List ℕ) 
 AreSpans keys test prefix = (wid : ℕ) → IsNum wid → IsSpan keys wid test (prefix wid)
 
 -- the changes of rows that settle a world whose rows are `own`, over those of the world to which it is linked
-abbrev pub rows_made : (ℕ → ℕ) → ℕ → List Stored → List Stored → List (ValKey × Option Mark)
+abbrev pub rows_made : (ℕ → ℕ) → ℕ → List StoredRow → List StoredRow → List (ValKey × Option Mark)
 rows_made keys wid own from = map (keyed keys wid) (settling keys own own from)
 
 -- Rows of a world are settled: they, and those of the world to which it is linked, were read, and the changes are written.
 pub record IsSettling (keys : ℕ → ℕ) (t u : Tables) (wid : ℕ) (link : Option ℕ) (prefix : ℕ → List ℕ) : Type 0 where
-  pub own : List Stored
-  pub from : List Stored
+  pub own : List StoredRow
+  pub from : List StoredRow
   pub own_read : AreReadUnder t (prefix wid) own
   pub from_read : MatchOption link (from ≡ []) (λ m. AreReadUnder t (prefix m) from)
   pub written : u ≡ with_changes val_codec t (rows_made keys wid own from)

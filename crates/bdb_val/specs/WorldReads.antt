@@ -9,10 +9,10 @@ use Rattle.bdb_base.specs.Worlds.{IsConsistent}
 use Rattle.bdb_keep.specs.Tables.{Tables}
 use Rattle.bdb_tables.specs.Names.{Names, AreNames, path_of}
 use Rattle.bdb_tables.specs.Rows.{AreKeyLengths, Tuples, HoldsTuples, HoldsRows}
-use Rattle.bdb_val.specs.declared.stored.Stored.{Stored}
+use Rattle.bdb_val.specs.declared.stored.StoredRow.{StoredRow}
 
 -- a stored row as one of a world
-abbrev pub held_row : Stored → Held
+abbrev pub held_row : StoredRow → Held
 held_row x = record { tuple = x.tuple; sign = x.mark.0; explicit = x.mark.1 }
 
 -- the tuple of a row comes before that of another
@@ -20,7 +20,7 @@ abbrev pub is_before : Held → Held → Bool
 is_before a b = is_lt (row_tuple_cmp a b)
 
 -- these are the rows of a world, and none comes before the one in front of it
-pub record AreInOrder (rows : List Stored) (held : List Held) : Type 0 where
+pub record AreInOrder (rows : List StoredRow) (held : List Held) : Type 0 where
   pub moved : IsPermutation (map held_row rows) held
   pub sorted : IsSortedBy is_before held
 

@@ -21,7 +21,7 @@ pub use laws::{
     steps_write_differences,
 };
 pub use reading::{read_group, read_stored, read_world};
-pub use stored::{Settled, Stored};
+pub use stored::{Settled, StoredRow};
 pub use walk::settle_group;
 pub use world_rows::world_at;
 pub use worlds::{clear_world, copy_world};

@@ -12,7 +12,7 @@ ghost use Rattle.bdb_val.specs.Rooms.{MayBegin};
 
 use crate::changes::Marked;
 use crate::room::{GroupRoom, PREFIX_ROOM};
-use crate::stored::Stored;
+use crate::stored::StoredRow;
 use bdb_base::Value;
 use bdb_keep::Keeper;
 use bdb_key::put_num;
@@ -25,7 +25,7 @@ pub fn read_stored<K: Keeper>(
     alloc: Global,
     keeper: &mut K,
     prefix: &[u8],
-) -> Result<Vec<Stored>, TabError>
+) -> Result<Vec<StoredRow>, TabError>
     requires grammar { InGrammar (K.seen keeper.old).kept }
     requires tuples { HaveTuples (K.seen keeper.old).kept }
     ensures rows { IfOk result
@@ -44,7 +44,7 @@ pub fn read_stored<K: Keeper>(
     for entry in &entries {
         match read_tuple(alloc, keeper, entry.0) {
             Ok(tuple) => {
-                let row = Stored {
+                let row = StoredRow {
                     tid: entry.0,
                     tuple,
                     mark: entry.1,
@@ -65,7 +65,7 @@ pub fn read_world<K: Keeper>(
     alloc: Global,
     keeper: &mut K,
     wid: u32,
-) -> Result<Vec<Stored>, TabError>
+) -> Result<Vec<StoredRow>, TabError>
     requires grammar { InGrammar (K.seen keeper.old).kept }
     requires tuples { HaveTuples (K.seen keeper.old).kept }
     ensures rows { IfOk result (λ rows. AreReadUnder (K.seen keeper.old).kept (world_prefix wid)
@@ -93,7 +93,7 @@ pub fn read_group<K: Keeper>(
     wid: u32,
     rel: u32,
     key: &[Value],
-) -> Result<Vec<Stored>, TabError>
+) -> Result<Vec<StoredRow>, TabError>
     requires grammar { InGrammar (K.seen keeper.old).kept }
     requires tuples { HaveTuples (K.seen keeper.old).kept }
     requires text { HaveKeyTexts key.now }

@@ -3,7 +3,7 @@ use bdb_base::{Sign, Tuple};
 
 /// A row of a world: the number of its tuple, the tuple, its sign, and whether it is explicit.
 #[derive(Drop)]
-pub struct Stored {
+pub struct StoredRow {
     pub tid: u32,
     pub tuple: Tuple,
     pub mark: (Sign, bool),

@@ -20,9 +20,9 @@ use crate::room::{LinkRoom, WalkRoom};
 use crate::settle::settle_state;
 use crate::stored::{Settled, SettledWorld};
 use bdb_base::Value;
-use bdb_keep::{KeepError, Keeper};
+use bdb_keep::Keeper;
 use bdb_key::put_num;
-use bdb_tables::{SuffixIx, SuffixTab, Tab, TabError, get};
+use bdb_tables::{SuffixIx, SuffixTab, Tab, TabError, get, table_error};
 use std::alloc::{AllocError, Global};
 
 /// Settles the rows of the tuples of a relation and a key, at a state and at all states whose suffix links lead
@@ -283,16 +283,6 @@ fn put_world(prefix: &mut Vec<u8>, wid: u32) -> Result<(), AllocError>
     prefix.clear();
     put_num(prefix, wid)?;
     Ok(())
-}
-
-// A keeper's error as a table's.
-fn table_error(error: KeepError) -> TabError
-    ensures { result ≡ TabError.Fault → error ≡ KeepError.Fault }
-{
-    match error {
-        KeepError::Fault => TabError::Fault,
-        KeepError::Memory => TabError::Memory,
-    }
 }
 
 // What was done, where one world is settled.

@@ -7,7 +7,7 @@ ghost use Rattle.bdb_val.specs.Reads.{HaveTuples};
 ghost use Rattle.bdb_val.specs.WorldReads.{AreInOrder, AreRowsAt, held_row};
 
 use crate::reading::read_world;
-use crate::stored::Stored;
+use crate::stored::StoredRow;
 use bdb_base::{Held, List, World, cmp_tuple};
 use bdb_keep::Keeper;
 use bdb_tables::TabError;
@@ -39,7 +39,7 @@ pub fn world_at<K: Keeper>(alloc: Global, keeper: &mut K, wid: u32) -> Result<Wo
 }
 
 // Rows as those of a world, in the order of their tuples.
-fn in_order(alloc: Global, rows: Vec<Stored>) -> Result<World, AllocError>
+fn in_order(alloc: Global, rows: Vec<StoredRow>) -> Result<World, AllocError>
     ensures { IfOk result (λ world. AreInOrder rows.items world.held) }
 {
     let mut held = held_rows(alloc, rows)?;
@@ -50,7 +50,7 @@ fn in_order(alloc: Global, rows: Vec<Stored>) -> Result<World, AllocError>
 }
 
 // Rows as those of a world.
-fn held_rows(alloc: Global, rows: Vec<Stored>) -> Result<Vec<Held>, AllocError>
+fn held_rows(alloc: Global, rows: Vec<StoredRow>) -> Result<Vec<Held>, AllocError>
     ensures { IfOk result (λ held. held.items ≡ map held_row rows.items) }
 {
     let mut held = Vec::new(alloc);

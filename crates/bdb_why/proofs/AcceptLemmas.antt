@@ -20,8 +20,12 @@ use Rattle.bdb_base.specs.Worlds.{stated, IsConsistent}
 use Rattle.bdb_base.proofs.CountLemmas.{list_any-map}
 use Rattle.bdb_base.proofs.FirstLemmas.{same_statement_itself}
 use Rattle.bdb_base.proofs.LeastLemmas.{find_passes}
-use Rattle.bdb_base.proofs.SetLemmas.{is_eq-Equal, is_eq_itself, members_make_set, set_is_ascending}
+use Rattle.bdb_base.proofs.SetLemmas.{is_eq_itself, members_make_set, set_is_ascending}
 use Rattle.bdb_base.proofs.WorldLemmas.{list_any_weaker}
+use Rattle.bdb_base.proofs.BoolLemmas.{same_tests}
+use Rattle.bdb_base.proofs.OptionLemmas.{some_of}
+use Rattle.bdb_base.proofs.FindLemmas.{find_none, find_all}
+use Rattle.bdb_base.proofs.BaseLemmas.{tied_tuple_is}
 use Rattle.bdb_why.specs.declared.kinds.Ground.{Ground}
 use Rattle.bdb_why.specs.declared.kinds.Ground.TheVariants.{Found, Blocked, Nowhere}
 use Rattle.bdb_why.specs.declared.kinds.Ruled.{Ruled}
@@ -33,7 +37,7 @@ use Rattle.bdb_why.specs.Grounds.{ground_of, is_found}
 use Rattle.bdb_why.specs.WhyLaws.{CheckIsExact, AcceptedIsBelief, CertificateIsAccepted}
 use Rattle.bdb_why.proofs.GroundLemmas.{stated_is_found}
 use Rattle.bdb_why.proofs.RivalLemmas.{any_rival, one_rival_is_found, rivals_all, says_is_belief, stated_is_rival}
-use Rattle.bdb_why.proofs.FindLemmas.{bool_same, find_some, find_none, find_all, found_with, list_all-map, list_all_true, all_members}
+use Rattle.bdb_why.proofs.FindLemmas.{find_some, found_with, list_all-map, list_all_true, all_members}
 
 -- ---- grounds
 
@@ -68,10 +72,6 @@ why_if_found own others e = cond-true (is_found own) (why.Stated own) (other_or 
 
 why_if_not : (own : Ground) (others : List Ruled) → is_found own ≡ false → why_by own others ≡ other_or (find is_held others) own others
 why_if_not own others e = cond-false (is_found own) (why.Stated own) (other_or (find is_held others) own others) e
-
-some_is : {X : Type 0} (o : Option X) → is_some o ≡ true → (x : X) × (o ≡ Some x)
-some_is None e = absurd (false≢true e)
-some_is (Some x) e = (x, refl)
 
 -- what is found of the rivals is one of them, with its ground
 held_is_rival : (keys : ℕ → ℕ) (stmts : List Stmt) (w : List ℕ) (t : Tuple) (z : Ruled) → find is_held (considered keys stmts w t Minus) ≡ Some z
@@ -108,17 +108,13 @@ tuples_again : (keys : ℕ → ℕ) (stmts : List Stmt) (w : List ℕ) (us : Lis
 tuples_again keys stmts w [] = refl
 tuples_again keys stmts w (u ∷ us) = ap (λ vs. u ∷ vs) (tuples_again keys stmts w us)
 
--- an item is the one of that tuple
-tuple_is : (u z : Tuple) → is_eq (tuple_cmp u z) ≡ true → u ≡ z
-tuple_is u z e = tuple_exact.exact u z (is_eq-Equal (tuple_cmp u z) e)
-
 module _ (keys : ℕ → ℕ) (stmts : List Stmt) (w : List ℕ) (t : Tuple) (rs : List Ruled) (ruled : list_all (is_ruled keys stmts w t) rs ≡ true)
     (covered : list_all (is_covered keys w t rs) stmts ≡ true) where
   given_is_rival : (z : Tuple) → list_any (λ r. is_eq (tuple_cmp r.tuple z)) rs ≡ true
       → list_any (λ x. is_rival_near keys w t x && is_eq (tuple_cmp x.tuple z)) stmts ≡ true
   given_is_rival z e =
       let r = found_with (λ r. is_eq (tuple_cmp r.tuple z)) (is_ruled keys stmts w t) rs ruled e in
-      let q : r.0.tuple ≡ z = tuple_is r.0.tuple z r.1 in
+      let q : r.0.tuple ≡ z = tied_tuple_is r.0.tuple z r.1 in
       list_any_weaker (makes_rival keys w t r.0.tuple) (λ x. is_rival_near keys w t x && is_eq (tuple_cmp x.tuple z))
       (λ x a. let k = and_parts (is_rival_near keys w t x) (same_tuple x.tuple r.0.tuple) a in
       and_from (is_rival_near keys w t x) (is_eq (tuple_cmp x.tuple z)) k.0 (is_eq_tuple_cmp x.tuple z ∙ ap (same_tuple x.tuple) (sym q) ∙ k.1))
@@ -129,7 +125,7 @@ module _ (keys : ℕ → ℕ) (stmts : List Stmt) (w : List ℕ) (t : Tuple) (rs
   rival_is_given z e =
       let x = found_with (λ x. is_rival_near keys w t x && is_eq (tuple_cmp x.tuple z)) (is_covered keys w t rs) stmts covered e in
       let k = and_parts (is_rival_near keys w t x.0) (is_eq (tuple_cmp x.0.tuple z)) x.1 in
-      let q : x.0.tuple ≡ z = tuple_is x.0.tuple z k.1 in
+      let q : x.0.tuple ≡ z = tied_tuple_is x.0.tuple z k.1 in
       elim (or_cases (not (is_rival_near keys w t x.0)) (is_among rs x.0.tuple) x.2) [
         | inl a ↦ absurd (false≢true (sym (not-true (is_rival_near keys w t x.0) a) ∙ k.0))
         | inr b ↦ list_any_weaker (λ r. same_tuple r.tuple x.0.tuple) (λ r. is_eq (tuple_cmp r.tuple z))
@@ -140,7 +136,7 @@ module _ (keys : ℕ → ℕ) (stmts : List Stmt) (w : List ℕ) (t : Tuple) (rs
   given_are_rivals h = members_make_set tuple_exact (map (λ r. r.tuple) rs) (rivals keys stmts w t) (sym (ascending_tuples rs) ∙ h)
       (set_is_ascending tuple_exact (map (λ x. x.tuple) (filter (is_rival_near keys w t) stmts)))
       (λ z. list_any-map (λ u. is_eq (tuple_cmp u z)) (λ r. r.tuple) rs
-      ∙ bool_same (list_any (λ r. is_eq (tuple_cmp r.tuple z)) rs) (list_any (λ x. is_rival_near keys w t x && is_eq (tuple_cmp x.tuple z)) stmts)
+      ∙ same_tests (list_any (λ r. is_eq (tuple_cmp r.tuple z)) rs) (list_any (λ x. is_rival_near keys w t x && is_eq (tuple_cmp x.tuple z)) stmts)
       (given_is_rival z) (rival_is_given z)
       ∙ sym (any_rival keys stmts w t (λ u. is_eq (tuple_cmp u z))))
 
@@ -174,7 +170,7 @@ other_is keys stmts h w t Minus r e =
     let any : list_any is_held others ≡ true = list_any-map is_held (ruled_of keys stmts w) (rivals keys stmts w t)
     ∙ any_rival keys stmts w t (λ u. is_held (ruled_of keys stmts w u))
     ∙ stated_is_rival keys stmts w t r.tuple (λ u. is_held (ruled_of keys stmts w u)) a.0 (sym (stated_is_found keys stmts w r.tuple Plus) ∙ held) held in
-    let z = some_is (find is_held others) (find_some is_held others ∙ any) in
+    let z = some_of (find is_held others) (find_some is_held others ∙ any) in
     let found = held_is_rival keys stmts w t z.0 z.1 in
     let theirs : z.0 ≡ ruled_of keys stmts w z.0.tuple = ruled_is keys stmts w z.0 found.2 in
     let one : r.tuple ≡ z.0.tuple = one_rival_is_found keys stmts h w t r.tuple z.0.tuple a.0 found.0 held (ap is_held (sym theirs) ∙ found.1) in

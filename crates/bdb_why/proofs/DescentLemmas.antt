@@ -7,13 +7,14 @@ use Rattle.bdb_base.specs.declared.tuple.Tuple.{Tuple}
 use Rattle.bdb_base.specs.Clash.{clash}
 use Rattle.bdb_base.specs.Same.{same_path, same_tuple, same_sign}
 use Rattle.bdb_base.specs.Worlds.{explicit, least_clash}
+use Rattle.bdb_base.proofs.FindLemmas.{list_any-filter_same}
 use Rattle.bdb_why.specs.declared.kinds.Ground.TheVariants.{Found, Blocked, Nowhere}
 use Rattle.bdb_why.specs.Grounds.{ground_by, ground_from}
-use Rattle.bdb_why.proofs.FindLemmas.{any_kept, find_kept}
+use Rattle.bdb_why.proofs.FindLemmas.{find_kept}
 
 -- what the statements of a path state is what all state there
 pub explicit_here : (stmts : List Stmt) (w : List ℕ) (t : Tuple) (s : Sign) → explicit (filter (λ x. same_path x.path w) stmts) w t s ≡ explicit stmts w t s
-explicit_here stmts w t s = any_kept (λ x. same_path x.path w && (same_tuple x.tuple t && same_sign x.sign s)) (λ x. same_path x.path w)
+explicit_here stmts w t s = list_any-filter_same (λ x. same_path x.path w && (same_tuple x.tuple t && same_sign x.sign s)) (λ x. same_path x.path w)
     (λ x e. (and_parts (same_path x.path w) (same_tuple x.tuple t && same_sign x.sign s) e).0) stmts
 
 pub least_here : (keys : ℕ → ℕ) (stmts : List Stmt) (w : List ℕ) (t : Tuple) (s : Sign)

@@ -10,11 +10,11 @@ use Rattle.bdb_base.specs.States.{is_state, deepest_suffix, suffix_link}
 use Rattle.bdb_base.specs.Worlds.{least_clash}
 use Rattle.bdb_base.proofs.ListLemmas.{filter_kept_one, filter_dropped_one}
 use Rattle.bdb_base.proofs.WorldLemmas.{nothing_stands}
+use Rattle.bdb_base.proofs.FindLemmas.{find_none}
 use Rattle.bdb_paths.proofs.SuffixLemmas.{deepest_here, deepest_past, length-deepest}
 use Rattle.bdb_why.specs.Ends.{ends, ends_in, ends_behind}
 use Rattle.bdb_why.specs.Grounds.{ground_by, ground_from}
 use Rattle.bdb_why.specs.WhyLaws.{GroundsGoByStates, EndsGoByLinks}
-use Rattle.bdb_why.proofs.FindLemmas.{find_none}
 
 -- at a path that is no state nothing decides
 pub ground_past : (keys : ℕ → ℕ) (stmts : List Stmt) (level i : ℕ) (w : List ℕ) (t : Tuple) (s : Sign) → is_state stmts (i ∷ w) ≡ false

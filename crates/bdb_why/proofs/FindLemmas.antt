@@ -1,23 +1,9 @@
 -- Tests of lists: what some item passes, what is found first, and what a filter keeps.
-use Rattle.std.proofs.Common.{◌≡◌, ◌∙◌, Bool, true, false, ◌&&◌, ◌||◌, cond, List, [], ◌∷◌, refl, ap, sym, inl, inr, Some, None, filter, find, map}
+use Rattle.std.proofs.Common.{◌≡◌, ◌∙◌, Bool, true, false, ◌&&◌, ◌||◌, cond, List, [], ◌∷◌, refl, ap, sym, inl, inr, Some, filter, find, map}
 use Rattle.std.specs.List.{list_any, list_all}
 use Rattle.std.specs.Option.{is_some}
-use Rattle.std.proofs.lemmas.Bool.{cases_Bool, and_parts, and_from, or_parts, or_cases, or_left, or_right, false≢true, cond-true, cond-false}
+use Rattle.std.proofs.lemmas.Bool.{cases_Bool, and_parts, and_from, or_cases, or_left, or_right, false≢true, cond-true, cond-false}
 use Rattle.bdb_base.proofs.ListLemmas.{filter_kept_one, filter_dropped_one}
-
--- two tests that follow from each other are one
-pub bool_same : (a b : Bool) → (a ≡ true → b ≡ true) → (b ≡ true → a ≡ true) → a ≡ b
-bool_same true b f g = sym (f refl)
-bool_same false true f g = g refl
-bool_same false false f g = refl
-
-pub and_true : (a : Bool) → (a && true) ≡ a
-and_true true = refl
-and_true false = refl
-
-pub and_false : (a : Bool) → (a && false) ≡ false
-and_false true = refl
-and_false false = refl
 
 -- something is found exactly where some item passes
 pub find_some : {X : Type 0} (p : X → Bool) (xs : List X) → is_some (find p xs) ≡ list_any p xs
@@ -27,43 +13,10 @@ find_some p (x ∷ xs) = elim (cases_Bool (p x)) [
   | inr e ↦ ap is_some (cond-false (p x) (Some x) (find p xs) e) ∙ find_some p xs ∙ ap (λ b. b || list_any p xs) (sym e)
 ]
 
-pub find_none : {X : Type 0} (p : X → Bool) (xs : List X) → list_any p xs ≡ false → find p xs ≡ None
-find_none p [] h = refl
-find_none p (x ∷ xs) h =
-    let k = or_parts (p x) (list_any p xs) h in
-    cond-false (p x) (Some x) (find p xs) k.0 ∙ find_none p xs k.1
-
--- what is found passes, and passes what all items pass
-pub find_all : {X : Type 0} (p q : X → Bool) (xs : List X) (x : X) → list_all q xs ≡ true → find p xs ≡ Some x → q x ≡ true
-find_all p q [] x h e = cc
-find_all p q (y ∷ ys) x h e =
-    let k = and_parts (q y) (list_all q ys) h in
-    elim (cases_Bool (p y)) [
-      | inl a ↦ let c : cond (p y) (Some y) (find p ys) ≡ Some y = cond-true (p y) (Some y) (find p ys) a in let j : y ≡ x = cc in ap q (sym j) ∙ k.0
-      | inr a ↦ let c : cond (p y) (Some y) (find p ys) ≡ find p ys = cond-false (p y) (Some y) (find p ys) a in find_all p q ys x k.1 (sym c ∙ e)
-    ]
-
--- a test of what a filter leaves
-pub any_filter : {X : Type 0} (p q : X → Bool) (xs : List X) → list_any p (filter q xs) ≡ list_any (λ x. q x && p x) xs
-any_filter p q [] = refl
-any_filter p q (x ∷ xs) = elim (cases_Bool (q x)) [
-  | inl e ↦ ap (list_any p) (filter_kept_one q x xs e) ∙ ap (λ b. p x || b) (any_filter p q xs)
-      ∙ ap (λ b. (b && p x) || list_any (λ y. q y && p y) xs) (sym e)
-  | inr e ↦ ap (list_any p) (filter_dropped_one q x xs e) ∙ any_filter p q xs ∙ ap (λ b. (b && p x) || list_any (λ y. q y && p y) xs) (sym e)
-]
-
 -- what fails a weaker test fails
 fails_under : (a b : Bool) → (a ≡ true → b ≡ true) → b ≡ false → a ≡ false
 fails_under true b w e = absurd (false≢true (sym e ∙ w refl))
 fails_under false b w e = refl
-
--- a filter by a weaker test keeps what a test finds
-pub any_kept : {X : Type 0} (p q : X → Bool) → ((x : X) → p x ≡ true → q x ≡ true) → (xs : List X) → list_any p (filter q xs) ≡ list_any p xs
-any_kept p q w [] = refl
-any_kept p q w (x ∷ xs) = elim (cases_Bool (q x)) [
-  | inl e ↦ ap (list_any p) (filter_kept_one q x xs e) ∙ ap (λ b. p x || b) (any_kept p q w xs)
-  | inr e ↦ ap (list_any p) (filter_dropped_one q x xs e) ∙ any_kept p q w xs ∙ ap (λ b. b || list_any p xs) (sym (fails_under (p x) (q x) (w x) e))
-]
 
 pub find_kept : {X : Type 0} (p q : X → Bool) → ((x : X) → p x ≡ true → q x ≡ true) → (xs : List X) → find p (filter q xs) ≡ find p xs
 find_kept p q w [] = refl

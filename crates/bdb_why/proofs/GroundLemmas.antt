@@ -8,11 +8,12 @@ use Rattle.bdb_base.specs.Clash.{clash}
 use Rattle.bdb_base.specs.Same.{same_path}
 use Rattle.bdb_base.specs.Worlds.{explicit, least_clash, stated}
 use Rattle.bdb_base.proofs.ListLemmas.{or_false}
+use Rattle.bdb_base.proofs.BoolLemmas.{and_true, and_false}
 use Rattle.bdb_why.specs.declared.kinds.Ground.{Ground}
 use Rattle.bdb_why.specs.declared.kinds.Ground.TheVariants.{Nowhere}
 use Rattle.bdb_why.specs.Grounds.{ground_by, ground_from, is_found}
 use Rattle.bdb_why.specs.WhyLaws.{StatedIsFound}
-use Rattle.bdb_why.proofs.FindLemmas.{and_true, and_false, find_some}
+use Rattle.bdb_why.proofs.FindLemmas.{find_some}
 
 pub found_by_rest : (b : Bool) (x : Option Stmt) (n : ℕ) (rest : Ground) → is_found (ground_by b x n rest) ≡ (b || (is_found rest && not (is_some x)))
 found_by_rest true x n rest = refl

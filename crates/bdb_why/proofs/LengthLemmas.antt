@@ -1,5 +1,5 @@
 -- Certificates of one tuple depend on the length of its relation's key alone.
-use Rattle.std.proofs.Common.{◌≡◌, ◌∙◌, ℕ, ◌+◌, Bool, true, not, ◌&&◌, ◌||◌, nat_eq, cond, List, [], ◌∷◌, map, filter, inl, inr, refl, ap, sym}
+use Rattle.std.proofs.Common.{◌≡◌, ◌∙◌, ℕ, ◌+◌, true, not, ◌&&◌, ◌||◌, nat_eq, List, [], ◌∷◌, map, inl, inr, refl, ap, sym}
 use Rattle.std.specs.List.{list_any, list_all}
 use Rattle.std.proofs.lemmas.Bool.{cases_Bool, and_parts, eqb-true}
 use Rattle.bdb_base.specs.declared.kinds.Sign.{Sign}
@@ -15,8 +15,9 @@ use Rattle.bdb_base.specs.SortedSet.{ascending, sorted_set}
 use Rattle.bdb_base.specs.Worlds.{explicit, least_clash, stated}
 use Rattle.bdb_base.proofs.ClashLemmas.{clash_by_length}
 use Rattle.bdb_base.proofs.WorldLemmas.{found_by}
+use Rattle.bdb_base.proofs.ListLemmas.{list_all_same, list_any_same, filter_same}
 use Rattle.bdb_model.proofs.LengthLemmas.{clash_is_within, least_clash_by_length, stated_by_length}
-use Rattle.bdb_model.proofs.LevelLemmas.{list_any_same}
+use Rattle.bdb_update.proofs.ClashingLemmas.{clash_is_of_key}
 use Rattle.bdb_why.specs.declared.kinds.Ground.{Ground}
 use Rattle.bdb_why.specs.declared.kinds.Ground.TheVariants.{Nowhere}
 use Rattle.bdb_why.specs.declared.kinds.Ruled.{Ruled}
@@ -26,15 +27,7 @@ use Rattle.bdb_why.specs.Accepting.{accepts, are_considered, is_among, is_covere
 use Rattle.bdb_why.specs.Certificates.{considered, is_held, is_rival_near, rivals, ruled_of, why_by, why_of}
 use Rattle.bdb_why.specs.Grounds.{ground_by, ground_from, ground_of, is_found}
 use Rattle.bdb_why.proofs.FindLemmas.{map_same_all}
-use Rattle.bdb_why.proofs.RivalLemmas.{clash_key, rivals_all}
-
-list_all_same : {X : Type 0} (p q : X → Bool) → ((x : X) → p x ≡ q x) → (xs : List X) → list_all p xs ≡ list_all q xs
-list_all_same p q h [] = refl
-list_all_same p q h (x ∷ xs) = ap (λ b. b && list_all p xs) (h x) ∙ ap (λ b. q x && b) (list_all_same p q h xs)
-
-filter_alike : {X : Type 0} (p q : X → Bool) → ((x : X) → p x ≡ q x) → (xs : List X) → filter p xs ≡ filter q xs
-filter_alike p q h [] = refl
-filter_alike p q h (x ∷ xs) = ap (λ b. cond b (x ∷ filter p xs) (filter p xs)) (h x) ∙ ap (λ r. cond (q x) (x ∷ r) r) (filter_alike p q h xs)
+use Rattle.bdb_why.proofs.RivalLemmas.{rivals_all}
 
 ground_by_length : (keys : ℕ → ℕ) (stmts : List Stmt) (level : ℕ) (w : List ℕ) (t : Tuple) (s : Sign) → ground_from (λ _. keys t.rel) stmts level w t s ≡ ground_from keys stmts level w t s
 ground_by_length keys stmts level [] t s = ap (λ x. ground_by (explicit stmts [] t s) x level Nowhere) (least_clash_by_length keys stmts [] t s)
@@ -102,7 +95,7 @@ module _ (keys : ℕ → ℕ) (stmts : List Stmt) (w : List ℕ) (t : Tuple) whe
   -- ---- the certificate itself
 
   rivals_by_length : rivals one stmts w t ≡ rivals keys stmts w t
-  rivals_by_length = ap (λ xs. sorted_set tuple_cmp (map (λ x. x.tuple) xs)) (filter_alike (is_rival_near one w t) (is_rival_near keys w t) (λ x. rival_by_length keys w t x) stmts)
+  rivals_by_length = ap (λ xs. sorted_set tuple_cmp (map (λ x. x.tuple) xs)) (filter_same (is_rival_near one w t) (is_rival_near keys w t) (λ x. rival_by_length keys w t x) stmts)
 
   -- a tuple of the key has the same ground
   ground_of_key : (u : Tuple) → same_key keys t u ≡ true → ruled_of one stmts w u ≡ ruled_of keys stmts w u
@@ -118,7 +111,7 @@ module _ (keys : ℕ → ℕ) (stmts : List Stmt) (w : List ℕ) (t : Tuple) whe
   all_by_length Minus =
       ap (map (ruled_of one stmts w)) rivals_by_length
       ∙ map_same_all (ruled_of one stmts w) (ruled_of keys stmts w) (same_key keys t) ground_of_key (rivals keys stmts w t)
-      (rivals_all keys stmts w t (same_key keys t) (λ u c. clash_key keys t u Plus Plus c))
+      (rivals_all keys stmts w t (same_key keys t) (λ u c. clash_is_of_key keys t u Plus Plus c))
 
   why_by_length : (s : Sign) → why_of one stmts w t s ≡ why_of keys stmts w t s
   why_by_length s =

@@ -1,12 +1,13 @@
 -- The way down a path over tables: depths of states, and where suffix links lead.
 use Rattle.std.proofs.Common.{◌≡◌, ◌∙◌, ℕ, ◌<◌, ◌^◌, List, ◌∷◌, sym, length, Option, Some, None}
 use Rattle.bdb_base.specs.States.{deepest_suffix}
+use Rattle.bdb_base.proofs.OptionLemmas.{none_is_some, same_some}
 use Rattle.bdb_keep.specs.Tables.{Tables}
 use Rattle.bdb_tables.specs.Codec.{HasAt}
 use Rattle.bdb_tables.specs.InUse.{depth_codec, link_codec}
 use Rattle.bdb_tables.specs.Names.{Names, AreNames, path_of, number_of, is_named}
 use Rattle.bdb_tables.specs.States.{HoldsStates}
-use Rattle.bdb_names.proofs.NameLemmas.{deep_number, depth_at, link_at, none_is_some, same_some}
+use Rattle.bdb_names.proofs.NameLemmas.{deep_number, depth_at, link_at}
 use Rattle.bdb_worlds.specs.Holding.{Worlds}
 use Rattle.bdb_worlds.proofs.ReadLemmas.{depth_read, link_read}
 use Rattle.bdb_why.specs.Reading.{HasDepth, LinksTo, SomeHaveLink, SomeHaveState}

@@ -21,7 +21,10 @@ use Rattle.bdb_base.proofs.FirstLemmas.{found_member, same_statement_itself}
 use Rattle.bdb_base.proofs.SetLemmas.{filter_keeps_order, members_make_set, set_is_ascending, set_keeps_members}
 use Rattle.bdb_base.proofs.WorldLemmas.{list_any_weaker, is_prefix_itself}
 use Rattle.bdb_base.proofs.WorldRowsLemmas.{list_any-flat_map}
-use Rattle.bdb_paths.proofs.StateLemmas.{list_any_same}
+use Rattle.bdb_base.proofs.BoolLemmas.{same_tests}
+use Rattle.bdb_base.proofs.FindLemmas.{list_any-filter, list_any-filter_same}
+use Rattle.bdb_base.proofs.ListLemmas.{list_any_same}
+use Rattle.bdb_update.proofs.ClashingLemmas.{clash_is_of_key}
 use Rattle.bdb_why.specs.declared.kinds.Ground.{Ground}
 use Rattle.bdb_why.specs.declared.kinds.Ground.TheVariants.{Nowhere}
 use Rattle.bdb_why.specs.declared.kinds.Ruled.{Ruled}
@@ -29,8 +32,8 @@ use Rattle.bdb_why.specs.Certificates.{is_rival_near, rivals, ruled_of, consider
 use Rattle.bdb_why.specs.Ends.{ends, ends_in, is_near, near_at}
 use Rattle.bdb_why.specs.Grounds.{ground_by, ground_from, ground_of}
 use Rattle.bdb_why.specs.WhyLaws.{NearIsAtStates, WhyDependsOnNear}
-use Rattle.bdb_why.proofs.RivalLemmas.{clash_key, one_key, rival_clashes, rivals_all}
-use Rattle.bdb_why.proofs.FindLemmas.{bool_same, any_filter, any_kept, find_kept, filter_kept, map_same_all}
+use Rattle.bdb_why.proofs.RivalLemmas.{one_key, rival_clashes, rivals_all, same_key_itself}
+use Rattle.bdb_why.proofs.FindLemmas.{find_kept, filter_kept, map_same_all}
 
 -- a path is an end of itself
 pub suffix_same : (v w : List ℕ) → same_path v w ≡ true → is_suffix v w ≡ true
@@ -48,11 +51,11 @@ keeps_tail keys t N i v h x e k = h x (or_right (same_path x.path (i ∷ v)) (is
 
 -- what clashes with a tuple of the key has the key
 key_of_clash : (keys : ℕ → ℕ) (t u x : Tuple) (s r : Sign) → same_key keys t u ≡ true → clash keys u s x r ≡ true → same_key keys t x ≡ true
-key_of_clash keys t u x s r k c = one_key keys u t x (same_key_turned keys u t ∙ k) (clash_key keys u x s r c)
+key_of_clash keys t u x s r k c = one_key keys u t x (same_key_turned keys u t ∙ k) (clash_is_of_key keys u x s r c)
 
 explicit_near : (keys : ℕ → ℕ) (stmts : List Stmt) (t : Tuple) (N : Stmt → Bool) (v : List ℕ) (u : Tuple) (s : Sign) → KeepsNear keys t N v → same_key keys t u ≡ true
     → explicit (filter N stmts) v u s ≡ explicit stmts v u s
-explicit_near keys stmts t N v u s h k = any_kept (λ x. same_path x.path v && (same_tuple x.tuple u && same_sign x.sign s)) N
+explicit_near keys stmts t N v u s h k = list_any-filter_same (λ x. same_path x.path v && (same_tuple x.tuple u && same_sign x.sign s)) N
     (λ x e.
     let m = and_parts (same_path x.path v) (same_tuple x.tuple u && same_sign x.sign s) e in
     let q = and_parts (same_tuple x.tuple u) (same_sign x.sign s) m.1 in
@@ -79,13 +82,10 @@ ground_near keys stmts t N n (i ∷ v) u s h k =
 near_kept : (keys : ℕ → ℕ) (w : List ℕ) (t : Tuple) → KeepsNear keys t (is_near keys w t) w
 near_kept keys w t x e k = and_from (is_suffix x.path w) (same_key keys t x.tuple) e k
 
-key_itself : (keys : ℕ → ℕ) (t : Tuple) → same_key keys t t ≡ true
-key_itself keys t = clash_key keys t t Plus Minus ((same_tuple-Decides t t).1 refl)
-
 rivals_near : (keys : ℕ → ℕ) (stmts : List Stmt) (w : List ℕ) (t : Tuple) → rivals keys (filter (is_near keys w t) stmts) w t ≡ rivals keys stmts w t
 rivals_near keys stmts w t = ap (λ xs. sorted_set tuple_cmp (map (λ x. x.tuple) xs)) (filter_kept (is_rival_near keys w t) (is_near keys w t)
     (λ x e. and_from (is_suffix x.path w) (same_key keys t x.tuple) (and_parts (is_suffix x.path w) (same_sign x.sign Plus && clash keys t Plus x.tuple Plus) e).0
-    (clash_key keys t x.tuple Plus Plus (rival_clashes keys w t x e))) stmts)
+    (clash_is_of_key keys t x.tuple Plus Plus (rival_clashes keys w t x e))) stmts)
 
 considered_near : (keys : ℕ → ℕ) (stmts : List Stmt) (w : List ℕ) (t : Tuple) (s : Sign) → considered keys (filter (is_near keys w t) stmts) w t s ≡ considered keys stmts w t s
 considered_near keys stmts w t Plus = refl
@@ -95,7 +95,7 @@ considered_near keys stmts w t Minus =
     λ u k. ap (λ g. ruled u g) (ground_near keys stmts t (is_near keys w t) 0 w u Plus (near_kept keys w t) k) in
     ap (map (ruled_of keys near w)) (rivals_near keys stmts w t)
     ∙ map_same_all (ruled_of keys near w) (ruled_of keys stmts w) (same_key keys t) same (rivals keys stmts w t)
-    (rivals_all keys stmts w t (same_key keys t) (λ u c. clash_key keys t u Plus Plus c))
+    (rivals_all keys stmts w t (same_key keys t) (λ u c. clash_is_of_key keys t u Plus Plus c))
   where
     ruled : Tuple → Ground → Ruled
     ruled u g = record { tuple = u; reason = g }
@@ -103,7 +103,7 @@ considered_near keys stmts w t Minus =
 pub why_depends_on_near : WhyDependsOnNear
 why_depends_on_near keys stmts w t s =
     let near = filter (is_near keys w t) stmts in
-    ap (λ g. why_by g (considered keys near w t s)) (ground_near keys stmts t (is_near keys w t) 0 w t s (near_kept keys w t) (key_itself keys t))
+    ap (λ g. why_by g (considered keys near w t s)) (ground_near keys stmts t (is_near keys w t) 0 w t s (near_kept keys w t) (same_key_itself keys t))
     ∙ ap (why_by (ground_of keys stmts w t s)) (considered_near keys stmts w t s)
 
 -- ---- the states among the ends
@@ -168,7 +168,7 @@ module _ (keys : ℕ → ℕ) (stmts : List Stmt) (w : List ℕ) (t : Tuple) (z 
       (λ y a. ap (is_here keys t z x.0.path) (sym ((same_statement-Decides x.0 y).0 a)) ∙ near_is_here x.0 x.2) stmts x.1))
 
   pub near_members : list_any (λ v. is_state stmts v && list_any (is_here keys t z v) stmts) (ends w) ≡ list_any (λ x. is_near keys w t x && is_eq (statement_cmp x z)) stmts
-  near_members = bool_same (list_any at_state (ends w)) (list_any near stmts) into_near from_near
+  near_members = same_tests (list_any at_state (ends w)) (list_any near stmts) into_near from_near
 
 pub near_is_at_states : NearIsAtStates
 near_is_at_states keys stmts h w t =
@@ -178,7 +178,7 @@ near_is_at_states keys stmts h w t =
     (λ z. set_keeps_members statement_exact found z
     ∙ list_any-flat_map (λ y. is_eq (statement_cmp y z)) (near_at keys stmts t) (ends_in (is_state stmts) w)
     ∙ list_any_same (λ v. list_any (λ y. is_eq (statement_cmp y z)) (near_at keys stmts t v)) (λ v. list_any (is_here keys t z v) stmts)
-    (λ v. any_filter (λ y. is_eq (statement_cmp y z)) (λ x. same_path x.path v && same_key keys t x.tuple) stmts) (ends_in (is_state stmts) w)
-    ∙ any_filter (λ v. list_any (is_here keys t z v) stmts) (is_state stmts) (ends w)
+    (λ v. list_any-filter (λ y. is_eq (statement_cmp y z)) (λ x. same_path x.path v && same_key keys t x.tuple) stmts) (ends_in (is_state stmts) w)
+    ∙ list_any-filter (λ v. list_any (is_here keys t z v) stmts) (is_state stmts) (ends w)
     ∙ near_members keys stmts w t z
-    ∙ sym (any_filter (λ y. is_eq (statement_cmp y z)) (is_near keys w t) stmts))
+    ∙ sym (list_any-filter (λ y. is_eq (statement_cmp y z)) (is_near keys w t) stmts))

@@ -15,10 +15,12 @@ use Rattle.bdb_base.specs.SameLemmas.{same_path-Decides, same_tuple-Decides, sam
 use Rattle.bdb_base.specs.SortedSet.{ascending, put_all, put_in}
 use Rattle.bdb_base.specs.Worlds.{explicit}
 use Rattle.bdb_base.proofs.CountLemmas.{list_any-map}
-use Rattle.bdb_base.proofs.SetLemmas.{is_eq-Equal, is_eq_itself, list_any-put_all, members_make_set, put_all_is_ascending}
+use Rattle.bdb_base.proofs.SetLemmas.{is_eq_itself, list_any-put_all, members_make_set, put_all_is_ascending}
 use Rattle.bdb_base.proofs.WorldLemmas.{found_by, list_any_weaker}
+use Rattle.bdb_base.proofs.BoolLemmas.{same_tests, or_assoc}
+use Rattle.bdb_base.proofs.FindLemmas.{list_any-filter}
+use Rattle.bdb_base.proofs.BaseLemmas.{tied_statement_is}
 use Rattle.bdb_why.specs.Ends.{near_at}
-use Rattle.bdb_why.proofs.FindLemmas.{any_filter, bool_same}
 
 -- a tuple as a statement at a path
 abbrev pub made : List ℕ → Sign → Tuple → Stmt
@@ -27,9 +29,6 @@ made w s x = record { path = w; sign = s; tuple = x }
 -- a statement is among others
 abbrev pub is_in : Stmt → List Stmt → Bool
 is_in z xs = list_any (λ y. is_eq (statement_cmp y z)) xs
-
-same_stmt : (y z : Stmt) → is_eq (statement_cmp y z) ≡ true → y ≡ z
-same_stmt y z e = statement_exact.exact y z (is_eq-Equal (statement_cmp y z) e)
 
 made_is : (y : Stmt) (w : List ℕ) (s : Sign) (x : Tuple) → same_path y.path w ≡ true → same_sign y.sign s ≡ true → same_tuple y.tuple x ≡ true → y ≡ made w s x
 made_is y w s x p q r =
@@ -41,10 +40,6 @@ pub put_more : (w : List ℕ) (s : Sign) (xs : List Stmt) (us : List Tuple) (u :
     → put_all statement_cmp xs (map (made w s) (us ++ u ∷ [])) ≡ put_in statement_cmp (put_all statement_cmp xs (map (made w s) us)) (made w s u)
 put_more w s xs [] u = refl
 put_more w s xs (v ∷ us) u = put_more w s (put_in statement_cmp xs (made w s v)) us u
-
-or_group : (a b c : Bool) → ((a || b) || c) ≡ (a || (b || c))
-or_group true b c = refl
-or_group false b c = refl
 
 module _ (keys : ℕ → ℕ) (stmts : List Stmt) (w : List ℕ) (u : Tuple) (test : Tuple → Bool)
     (near : (x : Tuple) (s : Sign) → explicit stmts w x s ≡ true → test x ≡ true → same_key keys u x ≡ true)
@@ -58,7 +53,7 @@ module _ (keys : ℕ → ℕ) (stmts : List Stmt) (w : List ℕ) (u : Tuple) (te
   states x s y = same_path y.path w && (same_tuple y.tuple x && same_sign y.sign s)
 
   in_near : (z : Stmt) → is_in z (near_at keys stmts u w) ≡ list_any (is_it z) stmts
-  in_near z = any_filter (λ y. is_eq (statement_cmp y z)) (λ x. same_path x.path w && same_key keys u x.tuple) stmts
+  in_near z = list_any-filter (λ y. is_eq (statement_cmp y z)) (λ x. same_path x.path w && same_key keys u x.tuple) stmts
 
   stated_near : (x : Tuple) (s : Sign) → explicit stmts w x s ≡ true → same_key keys u x ≡ true → is_in (made w s x) (near_at keys stmts u w) ≡ true
   stated_near x s e k = in_near (made w s x) ∙ list_any_weaker (states x s) (is_it (made w s x)) one stmts e
@@ -76,7 +71,7 @@ module _ (keys : ℕ → ℕ) (stmts : List Stmt) (w : List ℕ) (u : Tuple) (te
       → is_in z (near_at keys stmts u w) ≡ true
   read_near s [] a z e = absurd (false≢true e)
   read_near s (x ∷ us) a z e = elim (or_cases (is_eq (statement_cmp (made w s x) z)) (is_in z (map (made w s) us)) e) [
-    | inl k ↦ subst (λ (y : Stmt). is_in y (near_at keys stmts u w) ≡ true) (same_stmt (made w s x) z k) (stated_near x s a.0.0 (near x s a.0.0 a.0.1))
+    | inl k ↦ subst (λ (y : Stmt). is_in y (near_at keys stmts u w) ≡ true) (tied_statement_is (made w s x) z k) (stated_near x s a.0.0 (near x s a.0.0 a.0.1))
     | inr k ↦ read_near s us a.1 z k
   ]
 
@@ -88,7 +83,7 @@ module _ (keys : ℕ → ℕ) (stmts : List Stmt) (w : List ℕ) (u : Tuple) (te
       let found = found_by (is_it z) stmts any in
       let p = and_parts (same_path found.0.path w && same_key keys u found.0.tuple) (is_eq (statement_cmp found.0 z)) found.1 in
       let q = and_parts (same_path found.0.path w) (same_key keys u found.0.tuple) p.0 in
-      let same : found.0 ≡ z = same_stmt found.0 z p.1 in
+      let same : found.0 ≡ z = tied_statement_is found.0 z p.1 in
       let path : same_path z.path w ≡ true = ap (λ (y : Stmt). same_path y.path w) (sym same) ∙ q.0 in
       let key : same_key keys u z.tuple ≡ true = ap (λ (y : Stmt). same_key keys u y.tuple) (sym same) ∙ q.1 in
       list_any-map (λ y. is_eq (statement_cmp y z)) (made w s) us
@@ -100,7 +95,7 @@ module _ (keys : ℕ → ℕ) (stmts : List Stmt) (w : List ℕ) (u : Tuple) (te
       one y a =
           let p = and_parts (same_path y.path w && same_key keys u y.tuple) (is_eq (statement_cmp y z)) a in
           let q = and_parts (same_path y.path w) (same_key keys u y.tuple) p.0 in
-          let same : y ≡ z = same_stmt y z p.1 in
+          let same : y ≡ z = tied_statement_is y z p.1 in
           and_from (same_path y.path w) (same_tuple y.tuple z.tuple && same_sign y.sign s) q.0
           (and_from (same_tuple y.tuple z.tuple) (same_sign y.sign s) ((same_tuple-Decides y.tuple z.tuple).1 (ap (λ (x : Stmt). x.tuple) same))
           ((same_sign-Decides y.sign s).1 (ap (λ (x : Stmt). x.sign) same ∙ sign)))
@@ -119,7 +114,7 @@ module _ (keys : ℕ → ℕ) (stmts : List Stmt) (w : List ℕ) (u : Tuple) (te
     all_near = near_at keys stmts u w
 
     both_members : (z : Stmt) → (is_in z pluses || is_in z minuses) ≡ is_in z all_near
-    both_members z = bool_same (is_in z pluses || is_in z minuses) (is_in z all_near) into (λ e. from z.sign refl e)
+    both_members z = same_tests (is_in z pluses || is_in z minuses) (is_in z all_near) into (λ e. from z.sign refl e)
       where
         into : (is_in z pluses || is_in z minuses) ≡ true → is_in z all_near ≡ true
         into e = elim (or_cases (is_in z pluses) (is_in z minuses) e) [
@@ -139,5 +134,5 @@ module _ (keys : ℕ → ℕ) (stmts : List Stmt) (w : List ℕ) (u : Tuple) (te
         (put_all_is_ascending statement_exact xs all_near up)
         (λ z. list_any-put_all statement_exact (λ y. is_eq (statement_cmp y z)) (put_all statement_cmp xs pluses) minuses
         ∙ ap (λ b. b || is_in z minuses) (list_any-put_all statement_exact (λ y. is_eq (statement_cmp y z)) xs pluses)
-        ∙ or_group (is_in z xs) (is_in z pluses) (is_in z minuses) ∙ ap (λ b. is_in z xs || b) (both_members z)
+        ∙ or_assoc (is_in z xs) (is_in z pluses) (is_in z minuses) ∙ ap (λ b. is_in z xs || b) (both_members z)
         ∙ sym (list_any-put_all statement_exact (λ y. is_eq (statement_cmp y z)) xs all_near))

@@ -21,7 +21,7 @@ use Rattle.bdb_tables.specs.States.{HoldsStates}
 use Rattle.bdb_val.specs.Reads.{HaveTuples}
 use Rattle.bdb_tables.specs.Grammar.{InGrammar}
 use Rattle.bdb_update.specs.Keys.{keys_of}
-use Rattle.bdb_worlds.specs.Bounds.{RisesWithin}
+use Rattle.bdb_worlds.specs.Bounds.{EndsWithin}
 use Rattle.bdb_worlds.specs.Holding.{EndsAt, HoldSome, Worlds}
 use Rattle.bdb_catalog.specs.Bases.{SomeHasUsers}
 use Rattle.bdb_catalog.proofs.StoredFacts.{path_grammar, path_states, path_tuples}
@@ -77,7 +77,7 @@ near_begins t path u xs e b m =
     ap (λ ys. put_all statement_cmp ys (near_end (keys_of b) b.stmts u path)) e ∙ loop_makes_set statement_exact (near_end (keys_of b) b.stmts u path)
     ∙ near_is_at_states (keys_of b) b.stmts m.has.base.valid.stmts.sorted path u
 
-pub reads_begin : (t : Tables) (path : List ℕ) (u : Tuple) (before now : ℕ) → RisesWithin (length path + 1) before now → LeftReads t path u path before now
+pub reads_begin : (t : Tables) (path : List ℕ) (u : Tuple) (before now : ℕ) → EndsWithin (length path + 1) before now → LeftReads t path u path before now
 reads_begin t path u before now r b m below = let e = r below in omega arith
 
 -- ---- one end
@@ -195,7 +195,7 @@ module _ (t : Tables) (path : List ℕ) (u : Tuple) (at : ℕ × ℕ) where
   near_ends (i ∷ w) xs ys l ends near puts b m = absurd (omega arith)
 
   pub reads_end_here : (w : List ℕ) (before old mid : ℕ) → length w < 1 → EndsAt t path w at → old ≤ mid → ReadsHere t at.0 w u old mid → LeftReads t path u w before old
-      → (b : Contents) → MayAsk t path u b → (first : ℕ) → before ≤ first + 1 → RisesWithin (length path + reads_end (keys_of b) b.stmts u path) first mid
+      → (b : Contents) → MayAsk t path u b → (first : ℕ) → before ≤ first + 1 → EndsWithin (length path + reads_end (keys_of b) b.stmts u path) first mid
   reads_end_here [] before old mid l ends le spent reads b m first later below =
       let e : reads_end (keys_of b) b.stmts u [] ≡ reads_at (keys_of b) b.stmts u [] + 0 = sum_by-cons (reads_at (keys_of b) b.stmts u) [] [] in
       let k = reads b m (omega arith) in

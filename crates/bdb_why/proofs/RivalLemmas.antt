@@ -16,10 +16,12 @@ use Rattle.bdb_base.specs.Segments.{is_suffix}
 use Rattle.bdb_base.specs.SortedSet.{sorted_set}
 use Rattle.bdb_base.specs.Worlds.{stated}
 use Rattle.bdb_base.proofs.CountLemmas.{list_any-map}
-use Rattle.bdb_base.proofs.ListLemmas.{or_false}
+use Rattle.bdb_base.proofs.ListLemmas.{or_false, list_any_same}
 use Rattle.bdb_base.proofs.SetLemmas.{list_any-sorted_set, list_all-put_in}
 use Rattle.bdb_base.proofs.WorldLemmas.{list_any_weaker, found_by, stated_cases, worlds_are_consistent}
-use Rattle.bdb_paths.proofs.StateLemmas.{list_any_same}
+use Rattle.bdb_base.proofs.BoolLemmas.{same_tests}
+use Rattle.bdb_base.proofs.FindLemmas.{list_any-filter}
+use Rattle.bdb_update.proofs.ClashingLemmas.{clash_is_of_key}
 use Rattle.bdb_why.specs.declared.kinds.Ground.{Ground}
 use Rattle.bdb_why.specs.declared.kinds.Ruled.{Ruled}
 use Rattle.bdb_why.specs.declared.kinds.Why.TheVariants as why
@@ -27,7 +29,7 @@ use Rattle.bdb_why.specs.Certificates.{is_rival_near, rivals, ruled_of, consider
 use Rattle.bdb_why.specs.Grounds.{ground_of, is_found}
 use Rattle.bdb_why.specs.WhyLaws.{SaysIsBelief, OneRivalIsFound}
 use Rattle.bdb_why.proofs.GroundLemmas.{stated_is_found}
-use Rattle.bdb_why.proofs.FindLemmas.{bool_same, find_some, any_filter, filter_passes, list_all-map}
+use Rattle.bdb_why.proofs.FindLemmas.{find_some, filter_passes, list_all-map}
 
 -- a statement at an end of a path states this signed tuple
 abbrev pub states_near : List ℕ → Tuple → Sign → Stmt → Bool
@@ -59,7 +61,7 @@ pub any_rival : (keys : ℕ → ℕ) (stmts : List Stmt) (w : List ℕ) (t : Tup
 any_rival keys stmts w t p =
     list_any-sorted_set tuple_exact p (map (λ x. x.tuple) (filter (is_rival_near keys w t) stmts))
     ∙ list_any-map p (λ x. x.tuple) (filter (is_rival_near keys w t) stmts)
-    ∙ any_filter (λ x. p x.tuple) (is_rival_near keys w t) stmts
+    ∙ list_any-filter (λ x. p x.tuple) (is_rival_near keys w t) stmts
 
 -- what all that clashes with the tuple passes, all rivals pass
 pub rivals_all : (keys : ℕ → ℕ) (stmts : List Stmt) (w : List ℕ) (t : Tuple) (p : Tuple → Bool) → ((u : Tuple) → clash keys t Plus u Plus ≡ true → p u ≡ true)
@@ -97,7 +99,7 @@ rivals_found keys stmts w t =
     list_any-map is_held (ruled_of keys stmts w) (rivals keys stmts w t)
     ∙ list_any_same (λ u. is_found (ground_of keys stmts w u Plus)) held (λ u. stated_is_found keys stmts w u Plus) (rivals keys stmts w t)
     ∙ any_rival keys stmts w t held in
-    first ∙ bool_same (list_any (λ x. is_rival_near keys w t x && held x.tuple) stmts) (list_any (λ x. clash keys t Plus x.tuple Plus && held x.tuple) stmts)
+    first ∙ same_tests (list_any (λ x. is_rival_near keys w t x && held x.tuple) stmts) (list_any (λ x. clash keys t Plus x.tuple Plus && held x.tuple) stmts)
     (λ e. list_any_weaker (λ x. is_rival_near keys w t x && held x.tuple) (λ x. clash keys t Plus x.tuple Plus && held x.tuple)
     (λ x a. let k = and_parts (is_rival_near keys w t x) (held x.tuple) a in
     and_from (clash keys t Plus x.tuple Plus) (held x.tuple) (rival_clashes keys w t x k.0) k.1) stmts e)
@@ -131,13 +133,6 @@ pub same_key_itself : (keys : ℕ → ℕ) (t : Tuple) → same_key keys t t ≡
 same_key_itself keys t = and_from (nat_eq t.rel t.rel) (same_values (key_of keys t) (key_of keys t)) (eq-eqb t.rel t.rel refl)
     ((same_values-Decides (key_of keys t) (key_of keys t)).1 refl)
 
--- what clashes has one key
-pub clash_key : (keys : ℕ → ℕ) (t u : Tuple) (s r : Sign) → clash keys t s u r ≡ true → same_key keys t u ≡ true
-clash_key keys t u Plus Plus e = (and_parts (same_key keys t u) (not (same_tuple t u)) e).0
-clash_key keys t u Plus Minus e = ap (same_key keys t) (sym ((same_tuple-Decides t u).0 e)) ∙ same_key_itself keys t
-clash_key keys t u Minus Plus e = ap (same_key keys t) (sym ((same_tuple-Decides t u).0 e)) ∙ same_key_itself keys t
-clash_key keys t u Minus Minus e = absurd (false≢true e)
-
 -- two tuples with a third one's key have one key
 pub one_key : (keys : ℕ → ℕ) (t a b : Tuple) → same_key keys t a ≡ true → same_key keys t b ≡ true → same_key keys a b ≡ true
 one_key keys t a b e g =
@@ -157,5 +152,5 @@ same_from_apart keys a b e h = elim (cases_Bool (same_tuple a b)) [
 
 pub one_rival_is_found : OneRivalIsFound
 one_rival_is_found keys stmts h w t a b c d e g = same_from_apart keys a b
-    (one_key keys t a b (clash_key keys t a Plus Plus c) (clash_key keys t b Plus Plus d))
+    (one_key keys t a b (clash_is_of_key keys t a Plus Plus c) (clash_is_of_key keys t b Plus Plus d))
     (worlds_are_consistent keys stmts h w a b Plus Plus (sym (stated_is_found keys stmts w a Plus) ∙ e) (sym (stated_is_found keys stmts w b Plus) ∙ g))

@@ -12,7 +12,7 @@ use Rattle.bdb_keep.specs.Seen.{Seen}
 use Rattle.bdb_keep.specs.Tables.{Tables}
 use Rattle.bdb_tables.specs.Names.{path_of}
 use Rattle.bdb_tables.specs.States.{HoldsStates}
-use Rattle.bdb_worlds.specs.Bounds.{RisesWithin}
+use Rattle.bdb_worlds.specs.Bounds.{EndsWithin}
 use Rattle.bdb_worlds.specs.Holding.{IsDeepest, Worlds}
 use Rattle.bdb_catalog.specs.Bases.{StoresValid}
 use Rattle.bdb_why.specs.Ends.{ends_in, near_at}
@@ -56,7 +56,7 @@ ReadsHere t wid w u before now = (b : Contents) (h : StoresValid t b) → fits_r
 -- state among the path's ends, at most.
 abbrev pub ReadsAfterOne : Seen → Seen → List ℕ → Tuple → Type 0
 ReadsAfterOne old new path u = (b : Contents) → MayAsk old.kept path u b → (before : ℕ) → old.reads ≤ before + 1
-    → RisesWithin (length path + sum_by (reads_at (key_lengths b.catalog.rels) b.stmts u) (ends_in (is_state b.stmts) path)) before new.reads
+    → EndsWithin (length path + sum_by (reads_at (key_lengths b.catalog.rels) b.stmts u) (ends_in (is_state b.stmts) path)) before new.reads
 
 -- a set with statements at a path put in, those of some tuples with plus, and those of others with minus
 abbrev pub with_both : List ℕ → List Stmt → List Tuple → List Tuple → List Stmt

@@ -10,7 +10,7 @@ use Rattle.bdb_base.specs.declared.kinds.Stmt.{Stmt}
 use Rattle.bdb_base.specs.declared.tuple.Tuple.{Tuple}
 use Rattle.bdb_keep.specs.Seen.{Seen}
 use Rattle.bdb_keep.specs.Tables.{Tables}
-use Rattle.bdb_worlds.specs.Bounds.{RisesWithin}
+use Rattle.bdb_worlds.specs.Bounds.{EndsWithin}
 use Rattle.bdb_catalog.specs.Bases.{HasUsers}
 use Rattle.bdb_why.specs.declared.kinds.Why.{Why}
 use Rattle.bdb_why.specs.Certificates.{why_of}
@@ -47,4 +47,4 @@ reads_at keys stmts u w = 4 * length (rows_of_key keys stmts u w) + 4
 -- Whichever base it is: one read for each user of the path, and those at each state among the path's ends, at most.
 abbrev pub ReadsNear : Seen → Seen → List ℕ → Tuple → Type 0
 ReadsNear old new path u = (b : Contents) → MayAsk old.kept path u b
-    → RisesWithin (length path + sum_by (reads_at (key_lengths b.catalog.rels) b.stmts u) (ends_in (is_state b.stmts) path)) old.reads new.reads
+    → EndsWithin (length path + sum_by (reads_at (key_lengths b.catalog.rels) b.stmts u) (ends_in (is_state b.stmts) path)) old.reads new.reads

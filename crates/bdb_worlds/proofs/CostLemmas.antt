@@ -5,6 +5,7 @@ use Rattle.std.specs.List.{AllByRecursion, flat_map}
 use Rattle.std.specs.Option.{option_map}
 use Rattle.std.specs.FinMap as tables
 use Rattle.std.proofs.lemmas.Bool.{and_from, false≢true, true≢false, false_from_ne_true, eq-eqb, ne_eqb, eqb-false}
+use Rattle.std.proofs.lemmas.List.{append-nil}
 use Rattle.bdb_base.specs.Bases.{are_distinct}
 use Rattle.bdb_base.specs.Same.{same_text}
 use Rattle.bdb_base.specs.SameLemmas.{same_text-Decides}
@@ -66,17 +67,13 @@ IsSized s = AllByRecursion IsNum (numbers_of s)
 abbrev bytes_of : List ℕ → List ℕ
 bytes_of ns = flat_map num_bytes ns
 
-none_behind : (w : List ℕ) → w ++ [] ≡ w
-none_behind [] = refl
-none_behind (j ∷ w) = ap (λ (x : List ℕ). j ∷ x) (none_behind w)
-
 spelled : (s : Spot) → place_of s ≡ tab_of s ∷ bytes_of (numbers_of s)
-spelled (at_depth n) = ap (λ (x : List ℕ). 6 ∷ x) (sym (none_behind (num_bytes n)))
-spelled (at_link k) = ap (λ (x : List ℕ). 7 ∷ x) (sym (none_behind (num_bytes k)))
-spelled (at_linked a k) = ap (λ (x : List ℕ). 8 ∷ num_bytes a ++ x) (sym (none_behind (num_bytes k)))
-spelled (at_edge x i) = ap (λ (y : List ℕ). 9 ∷ num_bytes x ++ y) (sym (none_behind (num_bytes i)))
+spelled (at_depth n) = ap (λ (x : List ℕ). 6 ∷ x) (sym (append-nil (num_bytes n)))
+spelled (at_link k) = ap (λ (x : List ℕ). 7 ∷ x) (sym (append-nil (num_bytes k)))
+spelled (at_linked a k) = ap (λ (x : List ℕ). 8 ∷ num_bytes a ++ x) (sym (append-nil (num_bytes k)))
+spelled (at_edge x i) = ap (λ (y : List ℕ). 9 ∷ num_bytes x ++ y) (sym (append-nil (num_bytes i)))
 spelled (at_led a x i) =
-    ap (λ (y : List ℕ). 10 ∷ y) (append_assoc (num_bytes a) (num_bytes x) (num_bytes i) ∙ ap (λ (y : List ℕ). num_bytes a ++ (num_bytes x ++ y)) (sym (none_behind (num_bytes i))))
+    ap (λ (y : List ℕ). 10 ∷ y) (append_assoc (num_bytes a) (num_bytes x) (num_bytes i) ∙ ap (λ (y : List ℕ). num_bytes a ++ (num_bytes x ++ y)) (sym (append-nil (num_bytes i))))
 
 number_then : (a : ℕ) (rest : List ℕ) → num_bytes a ++ rest ≡ [] → ⊥
 number_then a rest e = absurd cc
@@ -342,7 +339,7 @@ pub sum_append : (f : Spot → ℕ) (xs ys : List Spot) → sum_of f (xs ++ ys) 
 sum_append f [] ys = omega arith
 sum_append f (x ∷ xs) ys = let e = sum_append f xs ys in omega (arith, e)
 
-length-both : (xs ys : List Spot) → length (xs ++ ys) ≡ length xs + length ys
+pub length-both : (xs ys : List Spot) → length (xs ++ ys) ≡ length xs + length ys
 length-both [] ys = omega arith
 length-both (x ∷ xs) ys = let e = length-both xs ys in omega (arith, e)
 

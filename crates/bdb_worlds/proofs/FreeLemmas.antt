@@ -4,6 +4,8 @@ use Rattle.std.specs.Option.{option_map, is_some}
 use Rattle.std.specs.Ordering.{is_le}
 use Rattle.std.specs.FinMap as tables
 use Rattle.std.proofs.lemmas.Bool.{false≢true, cases_lt}
+use Rattle.bdb_base.proofs.OptionLemmas.{some_of}
+use Rattle.bdb_base.proofs.Numbers.{number_le}
 use Rattle.bdb_keep.specs.Tables.{Tables}
 use Rattle.bdb_key.specs.Bytes.{num_bytes}
 use Rattle.bdb_key.specs.Grammar.{IsNum}
@@ -13,10 +15,8 @@ use Rattle.bdb_tables.specs.InUse.{depth_codec}
 use Rattle.bdb_tables.specs.Names.{path_of, depth_of}
 use Rattle.bdb_tables.specs.States.{HoldsStates}
 use Rattle.bdb_names.proofs.CountLemmas.{AllBelow, none_missing}
-use Rattle.bdb_names.proofs.NameLemmas.{some_of}
 use Rattle.bdb_worlds.specs.Free.{FindsFree}
 use Rattle.bdb_worlds.specs.Holding.{Worlds}
-use Rattle.bdb_worlds.proofs.ReadLemmas.{number_le}
 
 is_there : (o : Option ℕ) → is_some (option_map num_bytes o) ≡ is_some o
 is_there None = refl

@@ -4,6 +4,8 @@ use Rattle.std.specs.List.{AllByRecursion, list_any}
 use Rattle.std.proofs.lemmas.Bool.{and_parts, and_from, and_right, or_cases, or_parts, or_left, or_right, false≢true, false_from_ne_true, cond-true, cond-false, not-true, eqb-true, eq-eqb, ne_eqb}
 use Rattle.bdb_base.specs.Segments.{is_suffix}
 use Rattle.bdb_base.specs.States.{deepest_suffix}
+use Rattle.bdb_base.specs.OrderLemmas.{is_eq_nat_cmp}
+use Rattle.bdb_base.proofs.OptionLemmas.{none_is_some, same_some}
 use Rattle.bdb_paths.proofs.SuffixLemmas.{deepest_is_suffix}
 use Rattle.bdb_keep.specs.Tables.{Tables}
 use Rattle.bdb_key.specs.Grammar.{IsNum}
@@ -13,15 +15,16 @@ use Rattle.bdb_tables.specs.Names.{Names, path_of, number_of, is_named, is_liste
 use Rattle.bdb_tables.specs.States.{HoldsStates, TablesAre}
 use Rattle.bdb_tables.specs.Writes.{with_row_at}
 use Rattle.bdb_tables.proofs.WriteLemmas.{change_gives, change_elsewhere, gives_same}
+use Rattle.bdb_tables.proofs.Held.{leads_is}
 use Rattle.bdb_names.specs.Drops.{IsLast, led_past}
 use Rattle.bdb_names.specs.Turned.{link_set, with_link, links_led, with_links, edge_set, same_edge, with_edge, look}
-use Rattle.bdb_names.proofs.AddedLemmas.{links_led_are}
+use Rattle.bdb_names.proofs.AddedLemmas.{links_led_are, links_join}
 use Rattle.bdb_names.proofs.Ends.{more_is_end, ends_with}
 use Rattle.bdb_names.proofs.LessLemmas.{depths_less, links_less, edges_less, names_less, own_less}
-use Rattle.bdb_names.proofs.NameLemmas.{same_some, none_is_some, same_number, edge_found, link_found}
+use Rattle.bdb_names.proofs.NameLemmas.{same_number, edge_found, link_found}
 use Rattle.bdb_names.proofs.NamedLemmas.{cases_end}
-use Rattle.bdb_names.proofs.TurnedLemmas.{link_set_is, edge_set_is, tables_same, number_eq}
-use Rattle.bdb_worlds.specs.Dropping.{pairs_led, edges_dropped, state_dropped, pairs_of, kids_of, edges_of, AreRowsOf, without_state, IsDroppedState, DropTakesState}
+use Rattle.bdb_names.proofs.TurnedLemmas.{link_set_is, edge_set_is, tables_same, same_edge_is}
+use Rattle.bdb_worlds.specs.Dropping.{pairs_led, edges_dropped, state_dropped, pairs_of, kids_of, edges_of, AreWorldRows, without_state, IsDroppedState, DropTakesState}
 use Rattle.bdb_worlds.specs.Holding.{Worlds}
 use Rattle.bdb_worlds.proofs.ReadLemmas.{link_read}
 use Rattle.bdb_worlds.proofs.UnderLemmas.{is_pair, are_pairs_once, kids_are, kids_sized, kids_once, pairs_are, pairs_sized, pairs_once, edges_are, edges_sized, edges_once}
@@ -34,19 +37,8 @@ no_number = None
 abbrev with_pairs : (ℕ × ℕ → Option ℕ) → ℕ → List (ℕ × ℕ) → ℕ × ℕ → Option ℕ
 with_pairs e n ks q = cond (list_any (same_edge q) ks) (Some n) (e q)
 
-same_edge_is : (a b : ℕ × ℕ) → same_edge a b ≡ true → a ≡ b
-same_edge_is a b h =
-    let p = and_parts (nat_eq a.0 b.0) (nat_eq a.1 b.1) h in
-    let pair : ℕ → ℕ → ℕ × ℕ = λ m n. (m, n) in
-    ap (λ m. pair m a.1) (eqb-true a.0 b.0 p.0) ∙ ap (λ n. pair b.0 n) (eqb-true a.1 b.1 p.1)
-
-same_edge_itself : (a : ℕ × ℕ) → same_edge a a ≡ true
+pub same_edge_itself : (a : ℕ × ℕ) → same_edge a a ≡ true
 same_edge_itself a = and_from (nat_eq a.0 a.0) (nat_eq a.1 a.1) (eq-eqb a.0 a.0 refl) (eq-eqb a.1 a.1 refl)
-
-join : (b c : Bool) (x y : Option ℕ) → cond c x (cond b x y) ≡ cond (b || c) x y
-join true true x y = refl
-join true false x y = refl
-join false c x y = refl
 
 pairs_led_are : (t : Tables) (d l : ℕ → Option ℕ) (e : ℕ × ℕ → Option ℕ) (s n : ℕ) → IsNum n → (ks : List (ℕ × ℕ)) → AllByRecursion IsPair ks → are_pairs_once ks ≡ true
     → ((k : ℕ × ℕ) → list_any (same_edge k) ks ≡ true → e k ≡ Some s) → TablesAre t d l e → TablesAre (pairs_led t s n ks) d l (with_pairs e n ks)
@@ -54,7 +46,7 @@ pairs_led_are t d l e s n size [] sizes once led h = h
 pairs_led_are t d l e s n size (k ∷ ks) sizes once led h =
     let o = and_parts (not (list_any (same_edge k) ks)) (are_pairs_once ks) once in
     let e1 = with_edge e k (Some n) in
-    tables_same (pairs_led t s n (k ∷ ks)) d l (with_pairs e1 n ks) d l (with_pairs e n (k ∷ ks)) (λ q. refl) (λ q. refl) (λ q. join (same_edge q k) (list_any (same_edge q) ks) (Some n) (e q))
+    tables_same (pairs_led t s n (k ∷ ks)) d l (with_pairs e1 n ks) d l (with_pairs e n (k ∷ ks)) (λ q. refl) (λ q. refl) (λ q. links_join (same_edge q k) (list_any (same_edge q) ks) (Some n) (e q))
     (pairs_led_are (edge_set t (Some s) (Some n) k) d l e1 s n size ks sizes.1 o.1
     (λ q f. cond-false (same_edge q k) (Some n) (e q) (another q o.0 f) ∙ led q (or_right (same_edge q k) (list_any (same_edge q) ks) f))
     (edge_set_is t d l e (Some s) (Some n) k sizes.0 size (led k (or_left (same_edge k k) (list_any (same_edge k) ks) (same_edge_itself k))) h))
@@ -102,7 +94,7 @@ state_dropped_is t d l e n s size led h =
     let u = link_set t (Some s) None n in
     let k = link_set_is t d l e (Some s) None n size tt led h in
     record {
-      depth = gives_same depth_codec _ (with_row_at depth_codec d (n, None)) (with_link d n None) (λ q _. ap (λ b. cond b None (d q)) (number_eq q n))
+      depth = gives_same depth_codec _ (with_row_at depth_codec d (n, None)) (with_link d n None) (λ q _. ap (λ b. cond b None (d q)) (is_eq_nat_cmp q n))
           (change_gives depth_codec numbers_in_order u d (n, None) (record { key = size; row = tt }) k.depth);
       link = change_elsewhere link_codec depth_codec (λ x. cc) u _ (n, None) k.link;
       linked = change_elsewhere linked_codec depth_codec (λ x. cc) u _ (n, None) k.linked;
@@ -111,13 +103,6 @@ state_dropped_is t d l e n s size led h =
     }
 
 -- ---- the whole
-
-leads_is : (o : Option ℕ) (n : ℕ) → leads_to o n ≡ true → o ≡ Some n
-leads_is None n h = absurd (false≢true h)
-leads_is (Some m) n h = ap Some (eqb-true m n h)
-
-leads_self : (o : Option ℕ) (n : ℕ) → o ≡ Some n → leads_to o n ≡ true
-leads_self o n e = ap (λ x. leads_to x n) e ∙ eq-eqb n n refl
 
 look_listed : (xs : List (ℕ × ℕ)) (j : ℕ) → is_listed j (users_of xs) ≡ false → look xs j ≡ None
 look_listed [] j h = refl
@@ -164,7 +149,7 @@ module _ (w : Worlds) (t : Tables) (h : HoldsStates w.users w.names t) (p : List
             false≢true (sym f.apart ∙ ap (is_suffix (j ∷ [])) (front ∙ u.2) ∙ ap (λ x. is_suffix (j ∷ []) (u.0 ++ x ∷ [])) same ∙ ends_with u.0 (j ∷ []))
       ]
 
-  module _ (led : List ((ℕ × ℕ × ℕ) × Unit {0})) (linked : List ((ℕ × ℕ) × Unit {0})) (own : List ((ℕ × ℕ) × ℕ)) (rows : AreRowsOf t n s led linked own) where
+  module _ (led : List ((ℕ × ℕ × ℕ) × Unit {0})) (linked : List ((ℕ × ℕ) × Unit {0})) (own : List ((ℕ × ℕ) × ℕ)) (rows : AreWorldRows t n s led linked own) where
     abbrev es : List (ℕ × ℕ)
     es = pairs_of led
 

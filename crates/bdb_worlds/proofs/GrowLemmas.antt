@@ -2,12 +2,14 @@
 use Rattle.std.proofs.Common.{◌≡◌, ◌∙◌, ℕ, ◌+◌, ◌-◌, ◌≤◌, ◌<◌, ◌^◌, Bool, true, false, ◌&&◌, ◌||◌, nat_eq, cond, List, [], ◌∷◌, ◌++◌, refl, ap, sym, subst, inl, inr, suc, zero, arith, length, take, get_or, Option, Some, None}
 use Rattle.std.specs.Option.{is_some, option_map}
 use Rattle.std.specs.FinMap as tables
-use Rattle.std.proofs.lemmas.Bool.{and_from, or_left, or_right, or_cases, or_from, false≢true, false_from_ne_true, cond-true, eq-eqb, cases_lt}
+use Rattle.std.proofs.lemmas.Bool.{or_left, or_right, or_cases, or_from, false≢true, false_from_ne_true, cond-true, cases_lt}
 use Rattle.bdb_base.specs.Alternation.{alternates}
 use Rattle.bdb_base.specs.Same.{same_path}
 use Rattle.bdb_base.specs.SameLemmas.{same_path-Decides}
 use Rattle.bdb_base.specs.Segments.{is_prefix}
 use Rattle.bdb_base.specs.States.{deepest_suffix}
+use Rattle.bdb_base.proofs.BoolLemmas.{same_tests}
+use Rattle.bdb_base.proofs.SegmentLemmas.{take_is_prefix}
 use Rattle.bdb_keep.specs.Tables.{Tables}
 use Rattle.bdb_key.specs.Bytes.{num_bytes}
 use Rattle.bdb_key.specs.Grammar.{IsNum}
@@ -19,8 +21,7 @@ use Rattle.bdb_tables.proofs.ListLemmas.{prefix_rest}
 use Rattle.bdb_names.specs.Moves.{IsLeaf, AreMovers}
 use Rattle.bdb_names.specs.Turned.{links_led, edges_led, with_links, with_edges}
 use Rattle.bdb_names.proofs.AddedLemmas.{edges_led_are, links_led_are, moved_links, moved_edges, state_added}
-use Rattle.bdb_names.proofs.Ends.{no_own_end}
-use Rattle.bdb_names.proofs.ListedLemmas.{both_ways_true}
+use Rattle.bdb_names.proofs.Ends.{no_own_end, length_more}
 use Rattle.bdb_names.proofs.MoveLemmas.{moved_edge_led, moved_link_led, edge_moves_parts, link_moves_parts}
 use Rattle.bdb_names.proofs.NameLemmas.{is_named_by, deep_number, edge_at, edge_is}
 use Rattle.bdb_names.proofs.TurnedLemmas.{tables_same}
@@ -106,7 +107,7 @@ module _ (s : Worlds) (t : Tables) (h : HoldsStates s.users s.names t) (q : List
 
 -- ---- prefixes, one more at the end
 
-push_prefixes : (ns : Names) (path : List ℕ) (len : ℕ) (new : List ℕ) (n : ℕ)
+pub push_prefixes : (ns : Names) (path : List ℕ) (len : ℕ) (new : List ℕ) (n : ℕ)
     → with_prefixes ns path len (new ++ n ∷ []) ≡ with_name (with_prefixes ns path len new) n (take (suc (len + length new)) path)
 push_prefixes ns path len [] n = let e : suc len ≡ suc (len + 0) = omega arith in ap (λ k. with_name ns n (take k path)) e
 push_prefixes ns path len (m ∷ new) n =
@@ -117,10 +118,6 @@ push_prefixes ns path len (m ∷ new) n =
 push_least : (ns : Names) (path : List ℕ) (len : ℕ) (new : List ℕ) (n : ℕ) → AreLeast ns path len new → IsLeastFree (with_prefixes ns path len new) n → AreLeast ns path len (new ++ n ∷ [])
 push_least ns path len [] n h l = (l, tt)
 push_least ns path len (m ∷ new) n h l = (h.0, push_least (with_name ns m (take (suc len) path)) path (suc len) new n h.1 l)
-
-pub length-snoc : (new : List ℕ) (n : ℕ) → length (new ++ n ∷ []) ≡ suc (length new)
-length-snoc [] n = refl
-length-snoc (m ∷ new) n = ap (λ k. suc k) (length-snoc new n)
 
 pub length-take-is : (w : List ℕ) (k : ℕ) → k ≤ length w → length (take k w) ≡ k
 length-take-is w zero l = refl
@@ -134,12 +131,7 @@ take_split [] (suc j) (suc k) l = ([], refl)
 take_split (x ∷ w) (suc j) zero l = absurd (omega arith)
 take_split (x ∷ w) (suc j) (suc k) l = let r = take_split w j k (omega arith) in (r.0, ap (λ (z : List ℕ). x ∷ z) r.1)
 
-take_is_prefix : (w : List ℕ) (k : ℕ) → is_prefix (take k w) w ≡ true
-take_is_prefix w zero = refl
-take_is_prefix [] (suc k) = refl
-take_is_prefix (x ∷ w) (suc k) = and_from (nat_eq x x) (is_prefix (take k w) w) (eq-eqb x x refl) (take_is_prefix w k)
-
-take_full : (w : List ℕ) (k : ℕ) → k ≡ length w → take k w ≡ w
+pub take_full : (w : List ℕ) (k : ℕ) → k ≡ length w → take k w ≡ w
 take_full w k e = ap (λ n. take n w) e ∙ by w
   where
     by : (w : List ℕ) → take (length w) w ≡ w
@@ -285,18 +277,18 @@ module _ (t u : Tables) (path : List ℕ) (worlds len : ℕ) (new : List ℕ) (a
         states = subst (λ x. HoldsStates s.users x u') (sym names_now) holds_now;
         least = push_least s.names path len new number now.least found_is;
         number =
-            let e : len + length (new ++ number ∷ []) ≡ suc (len + length new) = ap (λ n. len + n) (length-snoc new number) ∙ omega arith in
+            let e : len + length (new ++ number ∷ []) ≡ suc (len + length new) = ap (λ n. len + n) (length_more new number) ∙ omega arith in
             ap (λ x. number_of x (take (len + length (new ++ number ∷ [])) path)) names_now
             ∙ ap (λ n. number_of (with_name ms number (q ++ i ∷ [])) (take n path)) e
             ∙ ap (number_of (with_name ms number (q ++ i ∷ []))) last
             ∙ cond-true (same_path (q ++ i ∷ []) (q ++ i ∷ [])) (Some number) (number_of ms (q ++ i ∷ [])) ((same_path-Decides (q ++ i ∷ []) (q ++ i ∷ [])).1 refl);
         used =
-            let e = length-snoc new number in
+            let e = length_more new number in
             let f = now.used in
             let l : suc (length ms.used) ≡ worlds + length (new ++ number ∷ []) = omega arith in
             ap (λ (x : Names). length x.used) names_now ∙ l;
         fresh = λ j l m.
-            let e = length-snoc new number in
+            let e = length_more new number in
             let w = length-take-is path j m in
             let differs : same_path (take j path) (q ++ i ∷ []) ≡ false = false_from_ne_true (same_path (take j path) (q ++ i ∷ [])) (λ t.
             let x = ap length ((same_path-Decides (take j path) (q ++ i ∷ [])).0 t) in let y = long in absurd (omega arith)) in
@@ -324,7 +316,7 @@ module _ (s : Worlds) (u : Tables) (path : List ℕ) (worlds len : ℕ) (new : L
     whole = whole;
     states = now.states;
     least = now.least;
-    paths = λ w. both_ways_true (is_named all w) (is_named s.names w || is_prefix w path) (named_old s.names path len new w)
+    paths = λ w. same_tests (is_named all w) (is_named s.names w || is_prefix w path) (named_old s.names path len new w)
         (λ h. elim (or_cases (is_named s.names w) (is_prefix w path) h) [
           | inl a ↦ named_still s.names path len new w a
           | inr b ↦

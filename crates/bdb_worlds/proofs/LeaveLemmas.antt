@@ -4,11 +4,11 @@ use Rattle.bdb_base.specs.Causes.{Rises}
 use Rattle.bdb_keep.specs.Tables.{Tables}
 use Rattle.bdb_tables.specs.InUse.{depth_codec}
 use Rattle.bdb_names.specs.Turned.{link_set, links_led, edge_set}
-use Rattle.bdb_worlds.specs.Dropping.{pairs_led, edges_dropped, state_dropped, pairs_of, kids_of, edges_of, AreRowsOf, without_state, dropped_writes, IsDropped}
+use Rattle.bdb_worlds.specs.Dropping.{pairs_led, edges_dropped, state_dropped, pairs_of, kids_of, edges_of, AreWorldRows, without_state, dropped_writes, IsDropped}
 use Rattle.bdb_worlds.proofs.OutsideLemmas.{SameElsewhere, same_itself, outside_then, change_outside, link_set_outside, edge_set_outside, links_led_outside}
 
 pub dropped_is : (t u v : Tables) (n before mid now link : ℕ) (led : List ((ℕ × ℕ × ℕ) × Unit {0})) (linked : List ((ℕ × ℕ) × Unit {0})) (own : List ((ℕ × ℕ) × ℕ))
-    → u ≡ t → mid ≡ before → AreRowsOf t n link led linked own → v ≡ without_state u n link (pairs_of led) (kids_of linked) (edges_of own) → Rises (dropped_writes led linked own) mid now
+    → u ≡ t → mid ≡ before → AreWorldRows t n link led linked own → v ≡ without_state u n link (pairs_of led) (kids_of linked) (edges_of own) → Rises (dropped_writes led linked own) mid now
     → IsDropped t v n before now
 dropped_is t u v n before mid now link led linked own same writes rows made count = record {
   state = record {

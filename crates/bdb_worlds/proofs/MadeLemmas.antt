@@ -9,7 +9,8 @@ use Rattle.bdb_base.specs.Causes.{Rises}
 use Rattle.bdb_base.specs.Same.{same_path}
 use Rattle.bdb_base.specs.SameLemmas.{same_path-Decides}
 use Rattle.bdb_base.specs.Segments.{is_prefix}
-use Rattle.bdb_paths.proofs.SuffixLemmas.{length-suffix}
+use Rattle.bdb_base.proofs.OptionLemmas.{none_is_some, same_some}
+use Rattle.bdb_base.proofs.SegmentLemmas.{prefix_is_take, length-prefix, length-suffix}
 use Rattle.bdb_keep.specs.Seen.{Seen}
 use Rattle.bdb_keep.specs.Tables.{Tables}
 use Rattle.bdb_tables.specs.Differences.{AreDifferences}
@@ -20,8 +21,8 @@ use Rattle.bdb_names.specs.Turned.{same_edge, look}
 use Rattle.bdb_names.proofs.Ends.{whole_end, length_more, more_is_end}
 use Rattle.bdb_names.proofs.MoreLemmas.{links_more, edges_more}
 use Rattle.bdb_names.proofs.MoveLemmas.{edge_moves_parts, link_moves_parts}
-use Rattle.bdb_names.proofs.NameLemmas.{same_some, none_is_some, number_is, is_named_by, link_found, link_at_none, edge_found, edge_at_none}
-use Rattle.bdb_worlds.specs.Bounds.{RisesWithin, WritesWithin}
+use Rattle.bdb_names.proofs.NameLemmas.{number_is, is_named_by, link_found, link_at_none, edge_found, edge_at_none}
+use Rattle.bdb_worlds.specs.Bounds.{EndsWithin, WritesWithin}
 use Rattle.bdb_worlds.specs.Free.{FindsFree}
 use Rattle.bdb_worlds.specs.Growth.{IsAdded, MayGrow, SomeMayGrow, with_prefixes, state_writes}
 use Rattle.bdb_worlds.specs.Holding.{Worlds}
@@ -30,7 +31,6 @@ use Rattle.bdb_worlds.proofs.CostLemmas.{Spot, at_depth, at_link, at_linked, at_
 use Rattle.bdb_worlds.proofs.GoneLemmas.{looked}
 use Rattle.bdb_worlds.proofs.GrowLemmas.{Growing, next_is, found_is, holds_now, names_now, leaf_is, named_old, length-take-is}
 use Rattle.bdb_worlds.proofs.PartLemmas.{IsPart, part_path, link_between, edge_between, edge_there, link_there, edge_target_named, link_target_named}
-use Rattle.bdb_worlds.proofs.ShrinkLemmas.{prefix_is_take, prefix_short}
 use Rattle.bdb_worlds.proofs.SpentLemmas.{edges_less, links_at, less_all, links_all, moved_apart, moved_sum, own_spots, own_apart, own_weighs, own_world, world_of, edges_all, small_sum, next_moves}
 use Rattle.bdb_worlds.proofs.UnderLemmas.{are_pairs_once}
 
@@ -79,7 +79,7 @@ IsCome users ns ms (at_led a n j) = ⊥
 pub record IsMade (s : Worlds) (t : Tables) (ns : Names) (steps before now : ℕ) : Type 0 where
   pub moves : ℕ
   pub own : List Spot
-  pub count : RisesWithin (moves + (sum_of weight own + 3 * steps)) before now
+  pub count : EndsWithin (moves + (sum_of weight own + 3 * steps)) before now
   pub many : 3 * steps ≤ sum_of weight own
   pub apart : Apart own
   pub come : AllByRecursion (IsCome s.users s.names ns) own
@@ -136,7 +136,7 @@ module _ (s : Worlds) (t : Tables) (h : HoldsStates s.users s.names t) where
 
   -- what is written in all
   pub made_all : (ns : Names) (u : Tables) (steps d before now : ℕ) → HoldsStates s.users ns u → steps ≤ d → IsMade s t ns steps before now
-      → (ps : List (List ℕ)) → AreDifferences (tables.get t) (tables.get u) ps → RisesWithin ((d + 2) * length ps) before now
+      → (ps : List (List ℕ)) → AreDifferences (tables.get t) (tables.get u) ps → EndsWithin ((d + 2) * length ps) before now
   made_all ns u steps d before now hu le made ps diff small =
       let a = made.later ns u (λ w n e. e) hu ps diff in
       let b = costs_within t u _ _ _ _ _ _ h.tables hu.tables weight made.own made.apart
@@ -322,7 +322,7 @@ module _ (t u : Tables) (path : List ℕ) (worlds len : ℕ) (new : List ℕ) (a
     | inl a ↦ a
     | inr b ↦
         let now = growing s g in
-        let l = prefix_short w path b in
+        let l = length-prefix w path b in
         absurd (false≢true (sym (now.fresh (length w) (omega arith) l) ∙ ap (is_named (with_prefixes s.names path len new)) (sym (prefix_is_take w path b)) ∙ named))
   ]
 

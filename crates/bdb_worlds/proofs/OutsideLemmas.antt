@@ -6,10 +6,11 @@ use Rattle.std.specs.FinMap as map
 use Rattle.std.proofs.lemmas.Bool.{false≢true, false_from_ne_true}
 use Rattle.std.proofs.lemmas.Bool.Decides.{nat_tests}
 use Rattle.bdb_keep.specs.Tables.{Tables, bytes_cmp}
+use Rattle.bdb_keep.proofs.RowsLemmas.{same_place}
 use Rattle.bdb_tables.specs.Codec.{Codec, place}
 use Rattle.bdb_tables.specs.InUse.{depth_codec, link_codec, linked_codec, edge_codec, led_codec}
 use Rattle.bdb_tables.specs.Writes.{with_change}
-use Rattle.bdb_tables.proofs.Held.{head_same, same_place}
+use Rattle.bdb_tables.proofs.Held.{head_same}
 use Rattle.bdb_tables.proofs.WriteLemmas.{get_after_change}
 use Rattle.bdb_names.specs.Turned.{unlinked, linked, link_set, links_led, unled, led, edge_set, edges_led, edges_made, state_made}
 use Rattle.bdb_worlds.specs.Growth.{SameOutside, IsAdded}

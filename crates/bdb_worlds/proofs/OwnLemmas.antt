@@ -6,6 +6,7 @@ use Rattle.std.specs.Ordering.{is_le, nat_cmp}
 use Rattle.std.specs.FinMap as tables
 use Rattle.std.proofs.lemmas.Bool.{cases_Bool, and_parts, and_from, or_from, or_parts, false≢true, cond-true, cond-false, eqb-true, ne_eqb, eqb-false, not-true, cases_lt}
 use Rattle.std.proofs.lemmas.List.Concat.{flat_map-cons}
+use Rattle.bdb_base.proofs.Numbers.{number_le}
 use Rattle.bdb_keep.specs.Tables.{Tables}
 use Rattle.bdb_key.specs.Bytes.{num_bytes}
 use Rattle.bdb_key.specs.Grammar.{IsNum}
@@ -19,7 +20,7 @@ use Rattle.bdb_names.proofs.NameLemmas.{edge_found}
 use Rattle.bdb_worlds.specs.Dropping.{edges_of}
 use Rattle.bdb_worlds.specs.Holding.{Worlds}
 use Rattle.bdb_worlds.specs.Owns.{IsNextEdge, HasNextEdge, IsOwnEdge, AreOwnEdges, FindsEdges, edge_beside, edges_beside}
-use Rattle.bdb_worlds.proofs.ReadLemmas.{le_parts, le_same, le_number, number_le, none_unless}
+use Rattle.bdb_worlds.proofs.ReadLemmas.{le_parts, le_same, le_number, none_unless}
 use Rattle.bdb_worlds.proofs.UnderLemmas.{edges_are, edges_sized, edges_once}
 
 -- ---- the next edge

@@ -4,6 +4,7 @@ use Rattle.std.specs.List.{list_all}
 use Rattle.std.proofs.lemmas.Bool.{false_from_ne_true}
 use Rattle.bdb_base.specs.Alternation.{alternates}
 use Rattle.bdb_base.specs.States.{deepest_suffix}
+use Rattle.bdb_base.proofs.OptionLemmas.{none_is_some, same_some}
 use Rattle.bdb_paths.proofs.SuffixLemmas.{deepest_of_member, deepest_is_suffix}
 use Rattle.bdb_keep.specs.Tables.{Tables}
 use Rattle.bdb_tables.specs.Codec.{HasAt}
@@ -11,7 +12,7 @@ use Rattle.bdb_tables.specs.InUse.{edge_codec, depth_codec}
 use Rattle.bdb_tables.specs.Names.{number_of, is_named}
 use Rattle.bdb_tables.specs.States.{HoldsStates}
 use Rattle.bdb_names.proofs.Ends.{whole_end}
-use Rattle.bdb_names.proofs.NameLemmas.{same_some, none_is_some, is_named_by, deep_number, depth_at}
+use Rattle.bdb_names.proofs.NameLemmas.{is_named_by, deep_number, depth_at}
 use Rattle.bdb_worlds.specs.Holding.{Worlds, HoldSome}
 use Rattle.bdb_worlds.specs.Reach.{ReachesState}
 use Rattle.bdb_worlds.proofs.ReadLemmas.{depth_read}

@@ -8,7 +8,7 @@ use Rattle.std.specs.FinMap as map
 use Rattle.std.proofs.lemmas.Bool.{cases_Bool, false≢true, cond-true, cond-false, eqb-true, eqb-false, cases_order}
 use Rattle.bdb_keep.specs.Tables.{Tables}
 use Rattle.bdb_key.specs.Grammar.{IsNum}
-use Rattle.bdb_base.proofs.Numbers.{less, greater, equal}
+use Rattle.bdb_base.proofs.Numbers.{greater, equal, number_le}
 use Rattle.bdb_tables.specs.Codec.{Codec, HasAt, HasFirst, IsFirst, HasOneRow, TableFits, place}
 use Rattle.bdb_tables.specs.Grammar.{InGrammar}
 use Rattle.bdb_tables.specs.InUse.{IsPair, depth_codec, link_codec, linked_codec, edge_codec, led_codec}
@@ -16,21 +16,13 @@ use Rattle.bdb_tables.specs.InUseLaws.{number_rows_are_one}
 use Rattle.bdb_tables.specs.Names.{leads_to}
 use Rattle.bdb_tables.specs.States.{TablesAre, row_where}
 use Rattle.bdb_tables.specs.Writes.{Gives}
+use Rattle.bdb_tables.proofs.Held.{leads_is}
 use Rattle.bdb_worlds.specs.Finds.{HasNextChild, IsNextChild}
 
 -- ---- the grammar
 
-pub depths_fit : (t : Tables) → InGrammar t → TableFits depth_codec t
-depths_fit t h k r found = h 6 k r found
-
-pub links_fit : (t : Tables) → InGrammar t → TableFits link_codec t
-links_fit t h k r found = h 7 k r found
-
 pub linked_fit : (t : Tables) → InGrammar t → TableFits linked_codec t
 linked_fit t h k r found = h 8 k r found
-
-pub edges_fit : (t : Tables) → InGrammar t → TableFits edge_codec t
-edges_fit t h k r found = h 9 k r found
 
 pub led_fit : (t : Tables) → InGrammar t → TableFits led_codec t
 led_fit t h k r found = h 10 k r found
@@ -78,15 +70,6 @@ le_number a b h = elim (cases_order a b) [
   | inr r ↦ elim r [
     | inl lt ↦ omega arith
     | inr gt ↦ absurd (false≢true (ap is_le (sym (greater a b gt)) ∙ h))
-  ]
-]
-
-pub number_le : (a b : ℕ) → a ≤ b → is_le (nat_cmp a b) ≡ true
-number_le a b l = elim (cases_order a b) [
-  | inl e ↦ ap (λ x. is_le (nat_cmp x b)) e ∙ ap is_le (equal b)
-  | inr r ↦ elim r [
-    | inl lt ↦ ap is_le (less a b lt)
-    | inr gt ↦ absurd (omega arith)
   ]
 ]
 
@@ -154,10 +137,6 @@ row_there_is false e = absurd cc
 row_gone_is : (b : Bool) → option_map linked_codec.row_bytes (row_where b) ≡ None → b ≡ false
 row_gone_is true e = absurd cc
 row_gone_is false e = refl
-
-leads_is : (o : Option ℕ) (n : ℕ) → leads_to o n ≡ true → o ≡ Some n
-leads_is None n h = absurd (false≢true h)
-leads_is (Some m) n h = ap Some (eqb-true m n h)
 
 leads_not : (o : Option ℕ) (n : ℕ) → leads_to o n ≡ false → o ≡ Some n → ⊥
 leads_not None n h e = absurd cc

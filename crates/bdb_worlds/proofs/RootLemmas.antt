@@ -7,7 +7,9 @@ use Rattle.std.proofs.lemmas.Bool.{cases_Bool, false≢true, cond-true, cond-fal
 use Rattle.bdb_base.specs.Alternation.{alternates}
 use Rattle.bdb_base.specs.Same.{same_path}
 use Rattle.bdb_base.specs.SameLemmas.{same_path-Decides}
+use Rattle.bdb_base.specs.OrderLemmas.{is_eq_nat_cmp}
 use Rattle.bdb_base.proofs.ListLemmas.{or_false}
+use Rattle.bdb_base.proofs.OptionLemmas.{none_is_some, same_some}
 use Rattle.bdb_keep.specs.Tables.{Tables}
 use Rattle.bdb_key.specs.Grammar.{IsNum}
 use Rattle.bdb_tables.specs.Codec.{Codec}
@@ -17,8 +19,7 @@ use Rattle.bdb_tables.specs.Names.{AreNames, path_of, number_of, is_named, leads
 use Rattle.bdb_tables.specs.States.{row_where}
 use Rattle.bdb_tables.specs.Writes.{Gives, with_row_at}
 use Rattle.bdb_tables.proofs.WriteLemmas.{change_gives, change_elsewhere, gives_same}
-use Rattle.bdb_names.proofs.NameLemmas.{none_is_some, same_some, link_at_root, link_at_none, edge_found}
-use Rattle.bdb_names.proofs.TurnedLemmas.{number_eq}
+use Rattle.bdb_names.proofs.NameLemmas.{link_at_root, link_at_none, edge_found}
 use Rattle.bdb_worlds.specs.Root.{root_names, RootIsWorld}
 
 none_gives : {Key Row : Type 0} (c : Codec Key Row) (t : Tables) → ((k : List ℕ) → map.get t (c.number ∷ k) ≡ None) → Gives c t (λ _. None)
@@ -83,7 +84,7 @@ root_is_world t none = record {
   numbers = λ i h. absurd (false≢true h);
   own = λ w h. ap (list_all (λ _. false)) (named_root w h);
   tables = record {
-    depth = gives_same depth_codec _ (with_row_at depth_codec (λ _. None) (0, Some 0)) (depth_of root_names) (λ q _. ap (λ b. cond b (Some 0) None) (number_eq q 0) ∙ depth_is (nat_eq q 0))
+    depth = gives_same depth_codec _ (with_row_at depth_codec (λ _. None) (0, Some 0)) (depth_of root_names) (λ q _. ap (λ b. cond b (Some 0) None) (is_eq_nat_cmp q 0) ∙ depth_is (nat_eq q 0))
         (change_gives depth_codec numbers_in_order t (λ _. None) (0, Some 0) (record { key = lit< tt; row = lit< tt }) (none_gives depth_codec t (λ k. none 6 k refl)));
     link = change_elsewhere link_codec depth_codec (λ x. cc) t (link_of root_names) (0, Some 0)
         (gives_same link_codec t (λ _. None) (link_of root_names) (λ q _. sym (no_link q (path_of root_names q) refl)) (none_gives link_codec t (λ k. none 7 k refl)));

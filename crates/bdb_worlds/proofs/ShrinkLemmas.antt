@@ -1,13 +1,16 @@
 -- Prefixes of a path that go, one after the other, the longest first.
-use Rattle.std.proofs.Common.{◌≡◌, ◌∙◌, ℕ, ◌+◌, ◌-◌, ◌≤◌, ◌<◌, Bool, true, false, not, ◌&&◌, ◌||◌, nat_eq, nat_lt, cond, List, [], ◌∷◌, ◌++◌, refl, ap, sym, subst, inl, inr, suc, zero, arith, length, take, get_or, Option, Some, None}
+use Rattle.std.proofs.Common.{◌≡◌, ◌∙◌, ℕ, ◌+◌, ◌-◌, ◌<◌, Bool, true, false, not, ◌&&◌, ◌||◌, nat_lt, cond, List, [], ◌∷◌, ◌++◌, refl, ap, sym, subst, inl, inr, suc, zero, arith, length, take, get_or, Option, Some, None}
 use Rattle.std.specs.List.{list_all}
 use Rattle.std.specs.Option.{option_map, is_some}
 use Rattle.std.specs.FinMap as map
-use Rattle.std.proofs.lemmas.Bool.{and_parts, and_from, and_right, or_cases, or_left, or_right, false≢true, true≢false, false_from_ne_true, cond-false, eqb-true, eq-eqb, ltb-true, lt-ltb, cases_lt}
+use Rattle.std.proofs.lemmas.Bool.{and_parts, and_from, and_right, or_cases, or_left, or_right, false≢true, true≢false, false_from_ne_true, cond-false, ltb-true, lt-ltb, cases_lt}
 use Rattle.bdb_base.specs.Alternation.{alternates}
 use Rattle.bdb_base.specs.Same.{same_path}
 use Rattle.bdb_base.specs.SameLemmas.{same_path-Decides}
 use Rattle.bdb_base.specs.Segments.{is_prefix}
+use Rattle.bdb_base.proofs.BoolLemmas.{same_tests}
+use Rattle.bdb_base.proofs.OptionLemmas.{none_is_some}
+use Rattle.bdb_base.proofs.SegmentLemmas.{take_is_prefix, prefix_is_take, length-prefix}
 use Rattle.bdb_keep.specs.Tables.{Tables}
 use Rattle.bdb_key.specs.Bytes.{num_bytes}
 use Rattle.bdb_key.specs.Grammar.{IsNum}
@@ -16,45 +19,19 @@ use Rattle.bdb_tables.specs.Explicit.{HasExplicitRow}
 use Rattle.bdb_tables.specs.InUse.{link_codec, val_bytes}
 use Rattle.bdb_tables.specs.Names.{Names, AreNames, path_of, number_of, is_named, without_name}
 use Rattle.bdb_tables.specs.States.{HoldsStates}
-use Rattle.bdb_names.proofs.ListedLemmas.{both_ways_true}
-use Rattle.bdb_names.proofs.NameLemmas.{none_is_some, is_named_by, deep_number, link_at}
+use Rattle.bdb_names.proofs.NameLemmas.{is_named_by, deep_number, link_at}
+use Rattle.bdb_names.proofs.Ends.{length_more}
 use Rattle.bdb_worlds.specs.Dropping.{IsDropped}
 use Rattle.bdb_worlds.specs.Holding.{Worlds, HoldSome}
 use Rattle.bdb_worlds.specs.Reach.{LeadsDeep, HasDeepTarget}
 use Rattle.bdb_worlds.specs.Shrinking.{IsNoState, AreNumbersAlong, AreAlong, without_prefixes, IsDead, AreDead, as_root, as_needed, HasShrunk, DropsStates, LeavesOthers}
 use Rattle.bdb_worlds.specs.Staying.{IsNeeded, by_row, by_longer, TellsNeeded}
 use Rattle.bdb_worlds.proofs.GoneLemmas.{state_is_gone}
-use Rattle.bdb_worlds.proofs.GrowLemmas.{length-take-is, take_split}
+use Rattle.bdb_worlds.proofs.GrowLemmas.{length-take-is, take_split, take_full}
 use Rattle.bdb_worlds.proofs.OutsideLemmas.{SameElsewhere}
 use Rattle.bdb_worlds.proofs.ReachLemmas.{ReachedTo, reached_more}
 use Rattle.bdb_worlds.proofs.StayLemmas.{longer_stands}
 use Rattle.bdb_worlds.proofs.WalkLemmas.{take_next}
-
--- ---- parts of a path
-
-take_full : (w : List ℕ) (k : ℕ) → k ≡ length w → take k w ≡ w
-take_full w k e = ap (λ n. take n w) e ∙ by w
-  where
-    by : (w : List ℕ) → take (length w) w ≡ w
-    by [] = refl
-    by (x ∷ w) = ap (λ (z : List ℕ). x ∷ z) (by w)
-
-take_is_prefix : (w : List ℕ) (k : ℕ) → is_prefix (take k w) w ≡ true
-take_is_prefix w zero = refl
-take_is_prefix [] (suc k) = refl
-take_is_prefix (x ∷ w) (suc k) = and_from (nat_eq x x) (is_prefix (take k w) w) (eq-eqb x x refl) (take_is_prefix w k)
-
-pub prefix_is_take : (w p : List ℕ) → is_prefix w p ≡ true → w ≡ take (length w) p
-prefix_is_take [] p h = refl
-prefix_is_take (i ∷ w) [] h = absurd (false≢true h)
-prefix_is_take (i ∷ w) (j ∷ p) h =
-    let k = and_parts (nat_eq i j) (is_prefix w p) h in
-    ap (λ n. n ∷ w) (eqb-true i j k.0) ∙ ap (λ (z : List ℕ). j ∷ z) (prefix_is_take w p k.1)
-
-pub prefix_short : (w p : List ℕ) → is_prefix w p ≡ true → length w ≤ length p
-prefix_short [] p h = omega arith
-prefix_short (i ∷ w) [] h = absurd (false≢true h)
-prefix_short (i ∷ w) (j ∷ p) h = let k = prefix_short w p (and_parts (nat_eq i j) (is_prefix w p) h).1 in omega arith
 
 -- ---- the numbers of a path's prefixes
 
@@ -66,10 +43,6 @@ get_before : (xs : List ℕ) (x k : ℕ) → k < length xs → get_or (xs ++ x �
 get_before [] x k l = absurd (omega arith)
 get_before (y ∷ xs) x zero l = refl
 get_before (y ∷ xs) x (suc k) l = get_before xs x k (omega arith)
-
-pub length-push : (xs : List ℕ) (x : ℕ) → length (xs ++ x ∷ []) ≡ suc (length xs)
-length-push [] x = refl
-length-push (y ∷ xs) x = ap (λ n. suc n) (length-push xs x)
 
 -- whichever states the tables hold, the first prefixes of a path have these numbers
 abbrev pub Collected : Tables → List ℕ → List ℕ → Type 0
@@ -86,7 +59,7 @@ collected_more t path numbers more len wid count e so_far reached = subst (Colle
     all s h own k l = elim (cases_lt k (length numbers)) [
       | inl b ↦ so_far s h own k b ∙ ap Some (sym (get_before numbers wid k b))
       | inr b ↦
-          let n = length-push numbers wid in
+          let n = length_more numbers wid in
           let last : k ≡ length numbers = omega arith in
           let here : suc k ≡ len + 1 = omega arith in
           ap (λ j. number_of s.names (take j path)) here ∙ reached s h own ∙ ap Some (sym (get_last numbers wid) ∙ ap (λ j. get_or (numbers ++ wid ∷ []) j 0) (sym last))
@@ -205,7 +178,7 @@ shrinking_begins t path numbers gone left none all along s h own = subst (λ x. 
       states = h;
       paths = λ w. stays (is_named s.names w) (is_prefix w path && nat_lt left (length w)) (false_from_ne_true (is_prefix w path && nat_lt left (length w)) (λ x.
           let k = and_parts (is_prefix w path) (nat_lt left (length w)) x in
-          let l = prefix_short w path k.0 in
+          let l = length-prefix w path k.0 in
           let m = ltb-true left (length w) k.1 in
           let n = a.whole in
           absurd (omega arith)));
@@ -294,7 +267,7 @@ module _ (t u : Tables) (path numbers gone : List ℕ) (left : ℕ) (some : 0 < 
         names_are = push_gone s.names path (length path) gone n ∙ ap (λ k. without_name ms n (take k path)) place_is
 
         tests : (w : List ℕ) → ((is_prefix w path && nat_lt left (length w)) || same_path w p) ≡ (is_prefix w path && nat_lt at (length w))
-        tests w = both_ways_true ((is_prefix w path && nat_lt left (length w)) || same_path w p) (is_prefix w path && nat_lt at (length w)) there back
+        tests w = same_tests ((is_prefix w path && nat_lt left (length w)) || same_path w p) (is_prefix w path && nat_lt at (length w)) there back
           where
             there : ((is_prefix w path && nat_lt left (length w)) || same_path w p) ≡ true → (is_prefix w path && nat_lt at (length w)) ≡ true
             there e = elim (or_cases (is_prefix w path && nat_lt left (length w)) (same_path w p) e) [
@@ -322,7 +295,7 @@ module _ (t u : Tables) (path numbers gone : List ℕ) (left : ℕ) (some : 0 < 
 
         pub shrunk_more : (more : List ℕ) → more ≡ gone ++ n ∷ [] → IsShrinking s t v path numbers more at
         shrunk_more more e = subst (λ x. IsShrinking s t v path numbers x at) (sym e) record {
-          whole = let w = now.whole in let l = length-push gone n in omega arith;
+          whole = let w = now.whole in let l = length_more gone n in omega arith;
           states = subst (λ x. HoldsStates s.users x v) (sym names_are) held;
           paths = λ w.
               ap (λ x. is_named x w) names_are ∙ named_less ms n p w ∙ ap (λ b. b && not (same_path w p)) (now.paths w)

@@ -3,11 +3,13 @@ use Rattle.std.proofs.Common.{◌≡◌, ◌≢◌, ◌∙◌, ℕ, ◌+◌, ◌
 use Rattle.std.specs.List.{AllByRecursion, list_all, list_any}
 use Rattle.std.specs.Option.{option_map}
 use Rattle.std.specs.FinMap as tables
-use Rattle.std.proofs.lemmas.Bool.{and_parts, or_left, or_right, or_parts, false≢true, false_from_ne_true, not-true, cond-true, cond-false, eqb-true, eq-eqb, eqb-false}
+use Rattle.std.proofs.lemmas.Bool.{and_parts, or_left, or_right, or_parts, false≢true, false_from_ne_true, not-true, cond-true, cond-false, eq-eqb, eqb-false}
 use Rattle.std.proofs.lemmas.Nat.{mul-le}
 use Rattle.bdb_base.specs.Same.{same_path}
 use Rattle.bdb_base.specs.SameLemmas.{same_path-Decides}
 use Rattle.bdb_base.specs.States.{deepest_suffix}
+use Rattle.bdb_base.proofs.OptionLemmas.{none_is_some, same_some}
+use Rattle.bdb_base.proofs.ListLemmas.{length_map}
 use Rattle.bdb_paths.proofs.SuffixLemmas.{deepest_is_suffix, length-deepest}
 use Rattle.bdb_keep.specs.Tables.{Tables}
 use Rattle.bdb_key.specs.Grammar.{IsNum}
@@ -17,15 +19,16 @@ use Rattle.bdb_tables.specs.States.{HoldsStates}
 use Rattle.bdb_names.specs.Drops.{IsLast}
 use Rattle.bdb_names.specs.Turned.{same_edge, look}
 use Rattle.bdb_names.proofs.Ends.{whole_end, length_more, one_more}
-use Rattle.bdb_names.proofs.NameLemmas.{same_some, none_is_some, same_number, number_is, link_found, link_at_none, edge_found, edge_at_none}
+use Rattle.bdb_names.proofs.NameLemmas.{same_number, number_is, link_found, link_at_none, edge_found, edge_at_none}
 use Rattle.bdb_keep.specs.Seen.{Seen}
-use Rattle.bdb_worlds.specs.Bounds.{RisesWithin, WritesWithin}
+use Rattle.bdb_names.proofs.TurnedLemmas.{same_edge_is}
+use Rattle.bdb_worlds.specs.Bounds.{EndsWithin, WritesWithin}
 use Rattle.bdb_worlds.specs.Dropping.{pairs_of, kids_of, edges_of, IsDropped}
 use Rattle.bdb_worlds.specs.Holding.{Worlds, HoldSome}
 use Rattle.bdb_worlds.specs.Shrinking.{without_prefixes}
 use Rattle.bdb_worlds.specs.Staying.{TellsNeeded}
-use Rattle.bdb_worlds.proofs.CostLemmas.{Spot, at_depth, at_link, at_linked, at_edge, at_led, Apart, all_append, apart_append, all_map, sum_of, sum_append, Costs, costs_within, link_moved, edge_moved, goes, weight, depth_weighs, link_weighs, edge_weighs}
-use Rattle.bdb_worlds.proofs.GoneLemmas.{looked, not_itself, pairs_lead, kids_lead, own_once, own_sizes, look_is}
+use Rattle.bdb_worlds.proofs.CostLemmas.{Spot, at_depth, at_link, at_linked, at_edge, at_led, Apart, all_append, apart_append, all_map, sum_of, sum_append, Costs, costs_within, link_moved, edge_moved, goes, weight, depth_weighs, link_weighs, edge_weighs, length-both}
+use Rattle.bdb_worlds.proofs.GoneLemmas.{looked, not_itself, pairs_lead, kids_lead, own_once, own_sizes, look_is, same_edge_itself}
 use Rattle.bdb_worlds.proofs.GrowLemmas.{length-take-is}
 use Rattle.bdb_worlds.proofs.PartLemmas.{IsPart, part_path, link_between, edge_between, edge_there, link_there, edge_target_named, link_target_named}
 use Rattle.bdb_worlds.proofs.ReadLemmas.{link_read}
@@ -46,19 +49,6 @@ links_at ks = map (λ k. at_link k) ks
 
 abbrev pub edges_at : ℕ → List (ℕ × ℕ) → List Spot
 edges_at n xs = map (λ x. at_edge n x.0) xs
-
-same_edge_is : (a b : ℕ × ℕ) → same_edge a b ≡ true → a ≡ b
-same_edge_is a b h =
-    let p = and_parts (nat_eq a.0 b.0) (nat_eq a.1 b.1) h in
-    let pair : ℕ → ℕ → ℕ × ℕ = λ m n. (m, n) in
-    ap (λ m. pair m a.1) (eqb-true a.0 b.0 p.0) ∙ ap (λ n. pair b.0 n) (eqb-true a.1 b.1 p.1)
-
-same_edge_itself : (a : ℕ × ℕ) → same_edge a a ≡ true
-same_edge_itself a = ap (λ b. b_and b (nat_eq a.1 a.1)) (eq-eqb a.0 a.0 refl) ∙ eq-eqb a.1 a.1 refl
-  where
-    b_and : Bool → Bool → Bool
-    b_and true b = b
-    b_and false b = false
 
 -- facts of each edge but one
 pub less_all : (P : Spot → Type 0) (key : ℕ × ℕ) (ks : List (ℕ × ℕ)) → ((k : ℕ × ℕ) → list_any (same_edge k) ks ≡ true → same_edge k key ≡ false → P (at_edge k.0 k.1)) → AllByRecursion P (edges_less key ks)
@@ -145,15 +135,11 @@ sum_threes : (xs : List Spot) → sum_of (λ _. 3) xs ≡ 3 * length xs
 sum_threes [] = refl
 sum_threes (x ∷ xs) = let e = sum_threes xs in omega (arith, e)
 
-length-append-spots : (xs ys : List Spot) → length (xs ++ ys) ≡ length xs + length ys
-length-append-spots [] ys = omega arith
-length-append-spots (x ∷ xs) ys = let e = length-append-spots xs ys in omega (arith, e)
-
 pub moved_sum : (key : ℕ × ℕ) (es : List (ℕ × ℕ)) (ks : List ℕ) → are_pairs_once es ≡ true → 3 * length es + 3 * length ks ≤ sum_of (λ _. 3) (edges_less key es ++ links_at ks) + 3
 moved_sum key es ks once =
     let a = less_length key es once in
     let b = length-links ks in
-    let c = length-append-spots (edges_less key es) (links_at ks) in
+    let c = length-both (edges_less key es) (links_at ks) in
     let d = sum_threes (edges_less key es ++ links_at ks) in
     omega (arith, a, b, c, d)
 
@@ -244,7 +230,7 @@ pub record MayBeLeft (ns ms : Names) (path : List ℕ) (left : ℕ) : Type 0 whe
 pub record IsSpent (s : Worlds) (t : Tables) (ns : Names) (path : List ℕ) (left steps before now : ℕ) : Type 0 where
   pub moves : ℕ
   pub own : List Spot
-  pub count : RisesWithin (moves + (sum_of weight own + 3 * steps)) before now
+  pub count : EndsWithin (moves + (sum_of weight own + 3 * steps)) before now
   pub many : 3 * steps ≤ sum_of weight own
   pub apart : Apart own
   pub gone : AllByRecursion (IsGone s.users s.names ns) own
@@ -281,7 +267,7 @@ module _ (s : Worlds) (t : Tables) (h : HoldsStates s.users s.names t) where
 
   -- what is written in all
   pub spent_all : (ns : Names) (u : Tables) (path : List ℕ) (left steps d before now : ℕ) → HoldsStates s.users ns u → steps ≤ d → IsSpent s t ns path left steps before now
-      → (ps : List (List ℕ)) → AreDifferences (tables.get t) (tables.get u) ps → RisesWithin ((d + 2) * length ps) before now
+      → (ps : List (List ℕ)) → AreDifferences (tables.get t) (tables.get u) ps → EndsWithin ((d + 2) * length ps) before now
   spent_all ns u path left steps d before now hu le spent ps diff small =
       let a = spent.later ns u (record { part = λ w n e. e; stays = λ w n e _. e }) hu ps diff in
       let b = costs_within t u _ _ _ _ _ _ h.tables hu.tables weight spent.own spent.apart
@@ -293,10 +279,6 @@ module _ (s : Worlds) (t : Tables) (h : HoldsStates s.users s.names t) where
 both_facts : (P Q : ℕ × ℕ → Type 0) (xs : List (ℕ × ℕ)) → AllByRecursion P xs → AllByRecursion Q xs → AllByRecursion (λ x. P x × Q x) xs
 both_facts P Q [] f g = tt
 both_facts P Q (x ∷ xs) f g = ((f.0, g.0), both_facts P Q xs f.1 g.1)
-
-length-mapped : {X Y : Type 0} (m : X → Y) (xs : List X) → length (map m xs) ≡ length xs
-length-mapped m [] = refl
-length-mapped m (x ∷ xs) = ap (λ n. suc n) (length-mapped m xs)
 
 gone_world : (users : ℕ → Bool) (ns ms : Names) (r : Spot) → IsGone users ns ms r → path_of ms (world_of r) ≡ None
 gone_world users ns ms (at_depth n) g = g.2
@@ -504,9 +486,9 @@ module _ (s : Worlds) (t : Tables) (h : HoldsStates s.users s.names t) (ns : Nam
         let c = moved_sum key es ks es_once in
         let d = sum_append weight spent.own (own_spots n xs) in
         let f = own_weighs n xs in
-        let g1 = length-mapped {Y = ℕ × ℕ} (λ (r : (ℕ × ℕ × ℕ) × Unit {0}). (r.0.1, r.0.2)) dropped.state.led_rows in
-        let g2 = length-mapped {Y = ℕ} (λ (r : (ℕ × ℕ) × Unit {0}). r.0.1) dropped.state.linked_rows in
-        let g3 = length-mapped {Y = ℕ × ℕ} (λ (r : (ℕ × ℕ) × ℕ). (r.0.1, r.1)) dropped.state.edge_rows in
+        let g1 = length_map {Y = ℕ × ℕ} (λ (r : (ℕ × ℕ × ℕ) × Unit {0}). (r.0.1, r.0.2)) dropped.state.led_rows in
+        let g2 = length_map {Y = ℕ} (λ (r : (ℕ × ℕ) × Unit {0}). r.0.1) dropped.state.linked_rows in
+        let g3 = length_map {Y = ℕ × ℕ} (λ (r : (ℕ × ℕ) × ℕ). (r.0.1, r.1)) dropped.state.edge_rows in
         omega (arith, a, b, c, d, f, g1, g2, g3, e);
     many =
         let a = spent.many in
@@ -565,11 +547,11 @@ spending_ends old new path numbers gone left some shrinking spending ps d =
 -- ---- the same rows and counts
 
 pub within_after : (times : ℕ) (old mid new : Seen) → new.kept ≡ mid.kept → new.writes ≡ mid.writes → WritesWithin times old mid → WritesWithin times old new
-within_after times old mid new e f h ps d = subst (λ w. RisesWithin (times * length ps) old.writes w) (sym f) (h ps (subst (λ x. AreDifferences (tables.get old.kept) (tables.get x) ps) e d))
+within_after times old mid new e f h ps d = subst (λ w. EndsWithin (times * length ps) old.writes w) (sym f) (h ps (subst (λ x. AreDifferences (tables.get old.kept) (tables.get x) ps) e d))
 
 pub within_before : (times : ℕ) (old mid new : Seen) → mid.kept ≡ old.kept → mid.writes ≡ old.writes → WritesWithin times mid new → WritesWithin times old new
 within_before times old mid new e f h ps d =
-    subst (λ w. RisesWithin (times * length ps) w new.writes) f (h ps (subst (λ x. AreDifferences (tables.get x) (tables.get new.kept) ps) (sym e) d))
+    subst (λ w. EndsWithin (times * length ps) w new.writes) f (h ps (subst (λ x. AreDifferences (tables.get x) (tables.get new.kept) ps) (sym e) d))
 
 pub within_same : (times : ℕ) (old new : Seen) → new.writes ≡ old.writes → WritesWithin times old new
 within_same times old new f ps d small = omega (arith, f)

@@ -5,6 +5,7 @@ use Rattle.std.specs.Option.{option_map}
 use Rattle.std.specs.FinMap as map
 use Rattle.std.proofs.lemmas.Bool.{false≢true, false_from_ne_true, eqb-true, eqb-false, cases_lt}
 use Rattle.bdb_base.specs.States.{deepest_suffix}
+use Rattle.bdb_base.proofs.OptionLemmas.{none_is_some, same_some}
 use Rattle.bdb_paths.proofs.SuffixLemmas.{deepest_of_member, deepest_is_suffix}
 use Rattle.bdb_keep.specs.Tables.{Tables}
 use Rattle.bdb_key.specs.Bytes.{num_bytes}
@@ -16,7 +17,7 @@ use Rattle.bdb_tables.specs.InUseLaws.{number_rows_are_one}
 use Rattle.bdb_tables.specs.Names.{path_of, number_of, is_named, depth_of, edge_of}
 use Rattle.bdb_tables.specs.States.{HoldsStates}
 use Rattle.bdb_names.proofs.Ends.{whole_end, length_more, no_own_end}
-use Rattle.bdb_names.proofs.NameLemmas.{same_some, none_is_some, number_is, is_named_by, depth_at, edge_at, edge_is, edge_found}
+use Rattle.bdb_names.proofs.NameLemmas.{number_is, is_named_by, depth_at, edge_at, edge_is, edge_found}
 use Rattle.bdb_names.proofs.NamedLemmas.{user_of_end}
 use Rattle.bdb_worlds.specs.Holding.{Worlds}
 use Rattle.bdb_worlds.specs.Owns.{IsNextEdge, HasNextEdge}

@@ -1,39 +1,20 @@
 -- How calls end that are made of several calls.
-use Rattle.std.proofs.Common.{◌≡◌, ◌∙◌, ℕ, ◌≤◌, Ok, Err, arith}
+use Rattle.std.proofs.Common.{◌≡◌, ◌∙◌, Ok, Err, arith}
 use Rattle.std.specs.Result.{IsErrOf}
-use Rattle.bdb_base.specs.Causes.{Rose}
+use Rattle.bdb_base.proofs.CauseLemmas.{rose_later}
 use Rattle.bdb_keep.specs.Calls.{IsUndo}
-use Rattle.bdb_keep.specs.Seen.{Seen, GoesOn, IsDropped, NeverFall, Steps}
+use Rattle.bdb_keep.specs.Seen.{Seen, GoesOn, IsDropped, Steps}
 
 err_again : {A B E : Type 0} {x y : E} → IsErrOf {T = A} (Err x) y → IsErrOf {T = B} (Err x) y
 err_again h = cc
 
-pub goes_then : (a b c : Seen) → GoesOn a b → GoesOn b c → GoesOn a c
-goes_then a b c h k = record {
-  faults = let x = h.faults in let y = k.faults in omega arith;
-  running = k.running ∙ h.running;
-  last = k.last ∙ h.last;
-  commits = k.commits ∙ h.commits;
-}
-
 dropped_then : (a b c : Seen) → GoesOn a b → IsDropped b c → IsDropped a c
 dropped_then a b c h k = record { stopped = k.stopped; undone = k.undone ∙ h.last; last = k.last ∙ h.last; commits = k.commits ∙ h.commits }
-
-pub falls_then : (a b c : Seen) → NeverFall a b → NeverFall b c → NeverFall a c
-falls_then a b c h k = record {
-  faults = let x = h.faults in let y = k.faults in omega arith;
-  reads = let x = h.reads in let y = k.reads in omega arith;
-  writes = let x = h.writes in let y = k.writes in omega arith;
-  commits = let x = h.commits in let y = k.commits in omega arith;
-}
-
-rose_before : (a b c : ℕ) → a ≤ b → Rose b c → Rose a c
-rose_before a b c l r = omega (arith, r)
 
 -- a call that goes on, and then one that is refused
 pub steps_err : {T U E : Type 0} (a b c : Seen) (e f : E) → GoesOn a b → Steps {T = T} b c (Err e) f → Steps {T = U} a c (Err e) f
 steps_err {T} {U} a b c e f h k = record {
-  cause = record { later = let x = h.faults in let y = k.cause.later in omega arith; rose = λ x. rose_before a.faults b.faults c.faults h.faults (k.cause.rose (err_again {A = U} {B = T} x)) };
+  cause = record { later = let x = h.faults in let y = k.cause.later in omega arith; rose = λ x. rose_later a.faults b.faults c.faults h.faults (k.cause.rose (err_again {A = U} {B = T} x)) };
   ok = tt;
   err = dropped_then a b c h k.err;
 }

@@ -13,7 +13,7 @@ use Rattle.bdb_base.specs.SortedSet.{ascending}
 use Rattle.bdb_keep.specs.Tables.{Tables, bytes_cmp}
 use Rattle.bdb_key.specs.Bytes.{num_bytes}
 use Rattle.bdb_key.specs.Grammar.{IsNum}
-use Rattle.bdb_key.proofs.Readings.{num_form}
+use Rattle.bdb_key.proofs.Alone.{number_begins}
 use Rattle.bdb_tables.specs.Codec.{Codec, KeepsOrder, HasOneRow}
 use Rattle.bdb_tables.specs.InUse.{IsPair, pair_bytes, triple_bytes, linked_codec, edge_codec, led_codec}
 use Rattle.bdb_tables.specs.InUseLaws.{pairs_in_order, triples_in_order, number_rows_are_one, empty_rows_are_one}
@@ -21,7 +21,7 @@ use Rattle.bdb_tables.specs.Names.{is_listed, are_once, leads_to}
 use Rattle.bdb_tables.specs.Spans.{AreUnder, IsUnder, entry_bytes, entry_cmp}
 use Rattle.bdb_tables.specs.States.{row_where}
 use Rattle.bdb_tables.specs.Writes.{Gives}
-use Rattle.bdb_tables.proofs.ListLemmas.{prefix_append, prefix_rest}
+use Rattle.bdb_tables.proofs.ListLemmas.{prefix_append}
 use Rattle.bdb_names.specs.Turned.{look, same_edge}
 use Rattle.bdb_names.proofs.TurnedLemmas.{pair_eq, triple_eq}
 use Rattle.bdb_worlds.specs.Dropping.{pairs_of, kids_of, edges_of}
@@ -68,9 +68,6 @@ module _ {Key Row : Type 0} (c : Codec Key Row) (order : KeepsOrder c) where
       (sym (found_in prefix es key fits under.each) ∙ sym (under.found (c.key_bytes key) begins) ∙ h.rows key fits)
 
 -- ---- keys that begin with a number
-
-number_begins : (n a : ℕ) (rest : List ℕ) → IsNum n → IsNum a → is_prefix (num_bytes n) (num_bytes a ++ rest) ≡ true → a ≡ n
-number_begins n a rest fn fa e = let r = prefix_rest (num_bytes n) (num_bytes a ++ rest) e in (num_form a n rest r.0 fa fn r.1).0
 
 -- an earlier key is another
 earlier_differs : (a b : List ℕ) → is_lt (bytes_cmp a b) ≡ true → eq_by_cmp bytes_cmp a b ≡ false

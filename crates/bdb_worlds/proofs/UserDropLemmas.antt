@@ -1,14 +1,17 @@
 -- The edge of each world for a user goes, one world after the other.
-use Rattle.std.proofs.Common.{◌≡◌, ◌∙◌, ℕ, ◌+◌, ◌*◌, ◌≤◌, ◌<◌, Bool, true, false, not, ◌&&◌, ◌||◌, nat_eq, nat_lt, cond, List, [], ◌∷◌, ◌++◌, length, refl, ap, sym, subst, inl, inr, arith, Option, Some, None}
+use Rattle.std.proofs.Common.{◌≡◌, ◌∙◌, ℕ, ◌+◌, ◌*◌, ◌≤◌, ◌<◌, Bool, true, false, not, ◌&&◌, nat_eq, nat_lt, cond, List, [], ◌∷◌, ◌++◌, length, refl, ap, sym, subst, inl, inr, arith, Option, Some, None}
 use Rattle.std.specs.Option.{is_some}
 use Rattle.std.specs.List.{list_all}
 use Rattle.std.specs.FinMap as tables
-use Rattle.std.proofs.lemmas.Bool.{cases_Bool, cases_lt, and_parts, and_from, and_right, or_cases, false≢true, false_from_ne_true, cond-true, cond-false, eqb-true, eqb-false, eq-eqb, ne_eqb, lt-ltb, le-ltb}
+use Rattle.std.proofs.lemmas.Bool.{cases_Bool, cases_lt, and_parts, and_from, and_right, or_cases, false≢true, false_from_ne_true, cond-true, cond-false, eqb-true, eqb-false, eq-eqb, ne_eqb, lt-ltb, le-ltb, or_parts}
 use Rattle.bdb_base.specs.Causes.{Rises, RoseBy}
 use Rattle.bdb_base.specs.Same.{same_path}
 use Rattle.bdb_base.specs.SameLemmas.{same_path-Decides}
 use Rattle.bdb_base.specs.Segments.{is_suffix}
 use Rattle.bdb_base.specs.States.{edge_target}
+use Rattle.bdb_base.proofs.OptionLemmas.{some_of}
+use Rattle.bdb_base.proofs.Numbers.{differs_turned}
+use Rattle.bdb_base.proofs.BoolLemmas.{and_true}
 use Rattle.bdb_keep.specs.Seen.{Seen}
 use Rattle.bdb_keep.specs.Tables.{Tables}
 use Rattle.bdb_key.specs.Grammar.{IsNum}
@@ -17,9 +20,9 @@ use Rattle.bdb_tables.specs.InUse.{depth_codec, edge_codec}
 use Rattle.bdb_tables.specs.Names.{Names, AreNames, path_of, number_of, is_named, is_listed, depth_of, link_of, edge_of}
 use Rattle.bdb_tables.specs.States.{HoldsStates, TablesAre}
 use Rattle.bdb_names.specs.Turned.{edge_set, same_edge, with_edge}
-use Rattle.bdb_names.proofs.NameLemmas.{some_of, path_is_named, deep_number, edge_at, edge_at_none, edge_is}
-use Rattle.bdb_names.proofs.TurnedLemmas.{edge_set_is, tables_same}
-use Rattle.bdb_worlds.specs.Bounds.{RisesWithin}
+use Rattle.bdb_names.proofs.NameLemmas.{path_is_named, deep_number, edge_at, edge_at_none, edge_is}
+use Rattle.bdb_names.proofs.TurnedLemmas.{edge_set_is, tables_same, same_edge_is}
+use Rattle.bdb_worlds.specs.Bounds.{EndsWithin}
 use Rattle.bdb_worlds.specs.Holding.{Worlds}
 use Rattle.bdb_worlds.specs.UserEdges.{IsNextNumber, HasNextNumber, without_one_user, MayLeave, DropsUser, WritesDropped, ReadsWorlds, DropsEdge, edge_dropped, edge_writes}
 use Rattle.bdb_worlds.proofs.OutsideLemmas.{SameButEdges, edges_itself, edge_alone}
@@ -32,18 +35,11 @@ nothing = None
 
 -- ---- edges and paths without a user
 
-neither : (a b : Bool) → (a || b) ≡ false → (a ≡ false) × (b ≡ false)
-neither true b e = absurd (false≢true (sym e))
-neither false b e = (refl, e)
-
-other_way : (a b : ℕ) → nat_eq a b ≡ false → nat_eq b a ≡ false
-other_way a b f = ne_eqb b a (λ e. eqb-false a b f (sym e))
-
 -- a path that doesn't name a user doesn't end in him
 not_last : (i : ℕ) (w : List ℕ) → is_listed i w ≡ false → is_suffix (i ∷ []) w ≡ false
 not_last i [] f = refl
 not_last i (j ∷ w) f =
-    let p = neither (nat_eq i j) (is_listed i w) f in
+    let p = or_parts (nat_eq i j) (is_listed i w) f in
     false_from_ne_true (is_suffix (i ∷ []) (j ∷ w)) (λ t. elim (or_cases (same_path (i ∷ []) (j ∷ w)) (is_suffix (i ∷ []) w) t) [
       | inl e ↦ let is : i ≡ j = head_is i j w ((same_path-Decides (i ∷ []) (j ∷ w)).0 e) in false≢true (sym p.0 ∙ eq-eqb i j is)
       | inr e ↦ false≢true (sym (not_last i w p.1) ∙ e)
@@ -79,8 +75,8 @@ module _ (users : ℕ → Bool) (ns : Names) (uid : ℕ) where
   own_without_user [] h f = refl
   own_without_user (i ∷ w) h f =
       let u = and_parts (users i) (list_all users w) h in
-      let p = neither (nat_eq uid i) (is_listed uid w) f in
-      and_from (less i) (list_all less w) (and_from (not (nat_eq i uid)) (users i) (ap not (other_way uid i p.0)) u.0) (own_without_user w u.1 p.1)
+      let p = or_parts (nat_eq uid i) (is_listed uid w) f in
+      and_from (less i) (list_all less w) (and_from (not (nat_eq i uid)) (users i) (ap not (differs_turned uid i p.0)) u.0) (own_without_user w u.1 p.1)
 
   -- a world whose path doesn't name a user has an edge for him
   edge_for_user : AreNames ns → users uid ≡ true → (k : ℕ) (w : List ℕ) → path_of ns k ≡ Some w → is_listed uid w ≡ false → is_some (edge_of users ns (k, uid)) ≡ true
@@ -89,12 +85,6 @@ module _ (users : ℕ → Bool) (ns : Names) (uid : ℕ) where
       ap is_some (edge_at users ns k uid w e ∙ edge_is users ns uid w user (not_last uid w f) ∙ deep.1)
 
 -- ---- an edge that goes
-
-same_edge_is : (a b : ℕ × ℕ) → same_edge a b ≡ true → a ≡ b
-same_edge_is a b h =
-    let p = and_parts (nat_eq a.0 b.0) (nat_eq a.1 b.1) h in
-    let pair : ℕ → ℕ → ℕ × ℕ = λ m n. (m, n) in
-    ap (λ m. pair m a.1) (eqb-true a.0 b.0 p.0) ∙ ap (λ n. pair b.0 n) (eqb-true a.1 b.1 p.1)
 
 -- edges without the one at a key that has none
 none_there : (e : ℕ × ℕ → Option ℕ) (k q : ℕ × ℕ) → e k ≡ None → e q ≡ with_edge e k nothing q
@@ -201,7 +191,7 @@ module _ (t u : Tables) (uid low : ℕ) (user_fits : IsNum uid) (so_far : UserDr
         elim (cases_Bool (nat_eq q.1 uid)) [
           | inl same ↦
               ap (λ b. cond (nat_eq q.0 wid && b) nothing (cond (b && nat_lt q.0 low) nothing edge)) same
-              ∙ ap (λ b. cond b nothing (cond (nat_lt q.0 low) nothing edge)) (and_one (nat_eq q.0 wid))
+              ∙ ap (λ b. cond b nothing (cond (nat_lt q.0 low) nothing edge)) (and_true (nat_eq q.0 wid))
               ∙ ap (λ j. cond (nat_eq q.0 wid) nothing (cond (nat_lt q.0 low) nothing (edge_of s.users s.names (q.0, j)))) (eqb-true q.1 uid same)
               ∙ at_user s h q.0
               ∙ ap (λ j. cond (nat_lt q.0 high) nothing (edge_of s.users s.names (q.0, j))) (sym (eqb-true q.1 uid same))
@@ -211,10 +201,6 @@ module _ (t u : Tables) (uid low : ℕ) (user_fits : IsNum uid) (so_far : UserDr
               ∙ ap (λ b. cond b nothing edge) (and_right (nat_eq q.0 wid) false refl)
               ∙ sym (ap (λ b. cond (b && nat_lt q.0 high) nothing edge) other)
         ]
-      where
-        and_one : (b : Bool) → (b && true) ≡ b
-        and_one true = refl
-        and_one false = refl
 
     module _ (mid now : Seen) (same : mid.kept ≡ u) (d : DropsEdge mid now (wid, uid)) where
       -- what was found is the edge of the world
@@ -280,27 +266,27 @@ EdgesDropped old new uid low = (s : Worlds) → HoldsStates s.users s.names old.
 
 -- no more than two reads were made for each world with a number below `low`
 abbrev pub WorldsRead : Seen → Seen → ℕ → Type 0
-WorldsRead old new low = (s : Worlds) → HoldsStates s.users s.names old.kept → RisesWithin (2 * below low s.names.used) old.reads new.reads
+WorldsRead old new low = (s : Worlds) → HoldsStates s.users s.names old.kept → EndsWithin (2 * below low s.names.used) old.reads new.reads
 
 pub dropped_begin : (old : Seen) (uid : ℕ) → EdgesDropped old old uid 0
 dropped_begin old uid s h leaves = twice_none (below 0 s.names.used) old.writes (none_below s.names.used)
 
-none_read : (n a : ℕ) → RisesWithin n a a
+none_read : (n a : ℕ) → EndsWithin n a a
 none_read n a less = omega arith
 
 pub read_begin : (old : Seen) → WorldsRead old old 0
 read_begin old s h = none_read (2 * below 0 s.names.used) old.reads
 
-pub within_one : (a b : ℕ) → RoseBy 1 a b → RisesWithin 1 a b
+pub within_one : (a b : ℕ) → RoseBy 1 a b → EndsWithin 1 a b
 within_one a b rose less = omega arith
 
 pub rises_one : (a b : ℕ) → RoseBy 1 a b → Rises 1 a b
 rises_one a b rose less = omega arith
 
-within_more : (n m a b c d : ℕ) → b ≤ c → c ≤ d → m ≡ n + 1 → RisesWithin (2 * n) a b → RisesWithin 1 b c → Rises 1 c d → RisesWithin (2 * m) a d
+within_more : (n m a b c d : ℕ) → b ≤ c → c ≤ d → m ≡ n + 1 → EndsWithin (2 * n) a b → EndsWithin 1 b c → Rises 1 c d → EndsWithin (2 * m) a d
 within_more n m a b c d bc cd e before one more less = let x = more less in let y = one (omega arith) in let z = before (omega arith) in omega arith
 
-within_all : (n m a b c : ℕ) → b ≤ c → n ≡ m → RisesWithin (2 * n) a b → RisesWithin 1 b c → RisesWithin (2 * m + 1) a c
+within_all : (n m a b c : ℕ) → b ≤ c → n ≡ m → EndsWithin (2 * n) a b → EndsWithin 1 b c → EndsWithin (2 * m + 1) a c
 within_all n m a b c bc e before one less = let y = one less in let z = before (omega arith) in omega arith
 
 module _ (old here : Seen) (uid low : ℕ) (user_fits : IsNum uid) (so_far : UserDroppedTo old.kept here.kept uid low) where
@@ -311,7 +297,7 @@ module _ (old here : Seen) (uid low : ℕ) (user_fits : IsNum uid) (so_far : Use
         (below_more here.kept s.names h.names (so_far s h).depth low wid high is next) (before s h leaves)
         (subst (λ n. Rises 2 n now.writes) writes (two_written old.kept here.kept uid low user_fits so_far wid high is next mid now kept d s h leaves))
 
-    pub read_more : here.reads ≤ mid.reads → mid.reads ≤ now.reads → RisesWithin 1 here.reads mid.reads → Rises 1 mid.reads now.reads → WorldsRead old here low → WorldsRead old now high
+    pub read_more : here.reads ≤ mid.reads → mid.reads ≤ now.reads → EndsWithin 1 here.reads mid.reads → Rises 1 mid.reads now.reads → WorldsRead old here low → WorldsRead old now high
     read_more first second one more before s h =
         within_more (below low s.names.used) (below high s.names.used) old.reads here.reads mid.reads now.reads first second
         (below_more here.kept s.names h.names (so_far s h).depth low wid high is next) (before s h) one more
@@ -321,6 +307,6 @@ module _ (old here : Seen) (uid low : ℕ) (user_fits : IsNum uid) (so_far : Use
       subst (λ n. Rises (2 * length s.names.used) old.writes n) (sym writes)
       (twice_all (below low s.names.used) (length s.names.used) old.writes here.writes (below_ends here.kept s.names h.names (so_far s h).depth low none) (before s h leaves))
 
-  pub read_end : (now : Seen) → here.reads ≤ now.reads → RisesWithin 1 here.reads now.reads → HasNextNumber here.kept low None → WorldsRead old here low → ReadsWorlds old now
+  pub read_end : (now : Seen) → here.reads ≤ now.reads → EndsWithin 1 here.reads now.reads → HasNextNumber here.kept low None → WorldsRead old here low → ReadsWorlds old now
   read_end now le one none before s h =
       within_all (below low s.names.used) (length s.names.used) old.reads here.reads now.reads le (below_ends here.kept s.names h.names (so_far s h).depth low none) (before s h) one

@@ -4,6 +4,8 @@ use Rattle.std.specs.Option.{option_map, is_some}
 use Rattle.std.specs.Ordering.{is_le}
 use Rattle.std.specs.FinMap as tables
 use Rattle.std.proofs.lemmas.Bool.{cases_Bool, and_right, false≢true, cond-true, cond-false, eqb-true, eqb-false, lt-ltb, le-ltb, cases_lt}
+use Rattle.bdb_base.proofs.Numbers.{number_le}
+use Rattle.bdb_base.proofs.BoolLemmas.{and_true}
 use Rattle.bdb_keep.specs.Tables.{Tables}
 use Rattle.bdb_key.specs.Bytes.{num_bytes}
 use Rattle.bdb_key.specs.Grammar.{IsNum}
@@ -18,7 +20,7 @@ use Rattle.bdb_names.proofs.TurnedLemmas.{edge_set_is, tables_same}
 use Rattle.bdb_names.proofs.UserLemmas.{edges_with_user, own_with_user}
 use Rattle.bdb_worlds.specs.Holding.{Worlds}
 use Rattle.bdb_worlds.specs.UserEdges.{IsNextNumber, HasNextNumber, AddsUser}
-use Rattle.bdb_worlds.proofs.ReadLemmas.{number_le, le_number, none_unless}
+use Rattle.bdb_worlds.proofs.ReadLemmas.{le_number, none_unless}
 
 -- ---- the next number
 
@@ -133,7 +135,7 @@ module _ (t u : Tables) (uid low : ℕ) (user_fits : IsNum uid) (so_far : UserAd
           elim (cases_Bool (nat_eq q.1 uid)) [
             | inl same ↦
                 ap (λ b. cond (nat_eq q.0 wid && b) (Some 0) (cond (b && nat_lt q.0 low) at edge)) same
-                ∙ ap (λ b. cond b (Some 0) (cond (nat_lt q.0 low) at edge)) (and_one (nat_eq q.0 wid))
+                ∙ ap (λ b. cond b (Some 0) (cond (nat_lt q.0 low) at edge)) (and_true (nat_eq q.0 wid))
                 ∙ ap (λ j. cond (nat_eq q.0 wid) (Some 0) (cond (nat_lt q.0 low) at (edge_of s.users s.names (q.0, j)))) (eqb-true q.1 uid same)
                 ∙ at_user s h new there q.0
                 ∙ ap (λ j. cond (nat_lt q.0 high) at (edge_of s.users s.names (q.0, j))) (sym (eqb-true q.1 uid same))
@@ -143,10 +145,6 @@ module _ (t u : Tables) (uid low : ℕ) (user_fits : IsNum uid) (so_far : UserAd
                 ∙ ap (λ b. cond b (Some 0) edge) (and_right (nat_eq q.0 wid) false refl)
                 ∙ sym (ap (λ b. cond (b && nat_lt q.0 high) at edge) other)
           ]
-        where
-          and_one : (b : Bool) → (b && true) ≡ b
-          and_one true = refl
-          and_one false = refl
 
   pub user_ends : HasNextNumber u low None → AddsUser t u uid
   user_ends none s h new = record {

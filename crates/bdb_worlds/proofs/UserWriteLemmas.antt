@@ -1,7 +1,7 @@
 -- How many worlds have numbers below the one that a loop has come to.
-use Rattle.std.proofs.Common.{◌≡◌, ◌∙◌, ℕ, ◌+◌, ◌*◌, ◌≤◌, ◌<◌, Bool, true, false, not, ◌||◌, nat_eq, nat_lt, cond, List, [], ◌∷◌, length, Option, Some, None, is_some, inl, inr, refl, ap, sym, arith}
+use Rattle.std.proofs.Common.{◌≡◌, ◌∙◌, ℕ, ◌+◌, ◌*◌, ◌≤◌, ◌<◌, true, false, not, ◌||◌, nat_eq, nat_lt, cond, List, [], ◌∷◌, length, Option, Some, None, is_some, inl, inr, refl, ap, sym, arith}
 use Rattle.std.specs.FinMap as tables
-use Rattle.std.proofs.lemmas.Bool.{cases_Bool, cases_lt, and_parts, or_left, or_right, false≢true, lt-ltb, le-ltb, eqb-true, eqb-false, eq-eqb}
+use Rattle.std.proofs.lemmas.Bool.{cases_Bool, cases_lt, and_parts, or_left, or_right, false≢true, lt-ltb, le-ltb, eqb-true, eqb-false, eq-eqb, not-true, or_parts}
 use Rattle.bdb_base.specs.Causes.{Rises}
 use Rattle.bdb_keep.specs.Seen.{Seen}
 use Rattle.bdb_keep.specs.Tables.{Tables}
@@ -54,21 +54,17 @@ module _ (low wid : ℕ) (le : low ≤ wid) where
   same_below : (ks : List ℕ) → is_listed wid ks ≡ false → ((k : ℕ) → is_listed k ks ≡ true → low ≤ k → k < wid → ⊥) → below (wid + 1) ks ≡ below low ks
   same_below [] out h = refl
   same_below (k ∷ ks) out h =
-      let p = parts (nat_eq wid k) (is_listed wid ks) out in
+      let p = or_parts (nat_eq wid k) (is_listed wid ks) out in
       let one = same_one k low wid le p.0 (h k (or_left (nat_eq k k) (is_listed k ks) (eq-eqb k k refl))) in
       let rest = same_below ks p.1 (λ j l. h j (or_right (nat_eq j k) (is_listed j ks) l)) in
       omega (arith, one, rest)
-    where
-      parts : (a b : Bool) → (a || b) ≡ false → (a ≡ false) × (b ≡ false)
-      parts true b e = absurd (false≢true (sym e))
-      parts false b e = (refl, e)
 
   one_more : (ks : List ℕ) → are_once ks ≡ true → is_listed wid ks ≡ true → ((k : ℕ) → is_listed k ks ≡ true → low ≤ k → k < wid → ⊥) → below (wid + 1) ks ≡ below low ks + 1
   one_more [] once l h = absurd (false≢true l)
   one_more (k ∷ ks) once l h = elim (cases_Bool (nat_eq wid k)) [
     | inl e ↦
         let same : wid ≡ k = eqb-true wid k e in
-        let out : is_listed wid ks ≡ false = ap (λ j. is_listed j ks) same ∙ no (is_listed k ks) p.0 in
+        let out : is_listed wid ks ≡ false = ap (λ j. is_listed j ks) same ∙ not-true (is_listed k ks) p.0 in
         let high : one_below k (wid + 1) ≡ 1 = ap (λ b. cond b 1 0) (lt-ltb k (wid + 1) (omega arith)) in
         let none : one_below k low ≡ 0 = ap (λ b. cond b 1 0) (le-ltb k low (omega arith)) in
         let rest = same_below ks out (λ j l. h j (or_right (nat_eq j k) (is_listed j ks) l)) in
@@ -82,10 +78,6 @@ module _ (low wid : ℕ) (le : low ≤ wid) where
       p : (not (is_listed k ks) ≡ true) × (are_once ks ≡ true)
       p = and_parts (not (is_listed k ks)) (are_once ks) once
 
-      no : (b : Bool) → not b ≡ true → b ≡ false
-      no true e = absurd (false≢true e)
-      no false e = refl
-
 -- ---- the loop
 
 listed_small : (ns : Names) → AreNames ns → (k : ℕ) → is_listed k ns.used ≡ true → IsNum k
@@ -97,7 +89,7 @@ listed_small ns h k l = by (path_of ns k) refl (sym (h.counted k) ∙ l)
 
 -- the names whose depths the tables have
 module _ (u : Tables) (ns : Names) (names : AreNames ns) (depths : Gives depth_codec u (depth_of ns)) where
-  -- a number of which no depth is stored isn't listed
+  -- a number of which not-true depth is stored isn't listed
   not_listed : (k : ℕ) → is_listed k ns.used ≡ true → tables.get u (place depth_codec k) ≡ None → ⊥
   not_listed k l gone =
       let small = listed_small ns names k l in

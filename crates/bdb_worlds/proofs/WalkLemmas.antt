@@ -6,6 +6,7 @@ use Rattle.std.proofs.lemmas.Bool.{and_parts}
 use Rattle.bdb_base.specs.Alternation.{alternates, begins_otherwise}
 use Rattle.bdb_base.specs.Causes.{Rises, RoseBy}
 use Rattle.bdb_base.specs.States.{deepest_suffix}
+use Rattle.bdb_base.proofs.OptionLemmas.{none_is_some, same_some}
 use Rattle.bdb_paths.proofs.SuffixLemmas.{suffixes_extend, deepest_is_suffix}
 use Rattle.bdb_keep.specs.Tables.{Tables}
 use Rattle.bdb_tables.specs.Codec.{HasAt}
@@ -13,7 +14,7 @@ use Rattle.bdb_tables.specs.InUse.{IsPair, depth_codec, edge_codec}
 use Rattle.bdb_tables.specs.Names.{Names, depth_of, number_of, is_named}
 use Rattle.bdb_tables.specs.States.{HoldsStates}
 use Rattle.bdb_names.proofs.Ends.{no_own_end, ends_otherwise}
-use Rattle.bdb_names.proofs.NameLemmas.{edge_at, edge_is, deep_number, none_is_some, same_some}
+use Rattle.bdb_names.proofs.NameLemmas.{edge_at, edge_is, deep_number}
 use Rattle.bdb_worlds.specs.Holding.{EndsAt, HoldSome, LeadsTo, StandsFor, Worlds}
 use Rattle.bdb_worlds.proofs.ReadLemmas.{depth_read, edge_read}
 

@@ -4,10 +4,10 @@ use Rattle.std.specs.FinMap as tables
 use Rattle.bdb_keep.specs.Seen.{Seen}
 use Rattle.bdb_tables.specs.Differences.{AreDifferences}
 
--- a count rises by no more than n, unless it stands at the end of its type
-abbrev pub RisesWithin : ℕ → ℕ → ℕ → Type 0
-RisesWithin n before now = now < 2 ^ 64 - 1 → now ≤ before + n
+-- a count ends no more than n above where it was, unless it stands at the end of its type
+abbrev pub EndsWithin : ℕ → ℕ → ℕ → Type 0
+EndsWithin n before now = now < 2 ^ 64 - 1 → now ≤ before + n
 
 -- for each place at which the rows before and after differ, no more than so many writes are made
 abbrev pub WritesWithin : ℕ → Seen → Seen → Type 0
-WritesWithin times old new = (ps : List (List ℕ)) → AreDifferences (tables.get old.kept) (tables.get new.kept) ps → RisesWithin (times * length ps) old.writes new.writes
+WritesWithin times old new = (ps : List (List ℕ)) → AreDifferences (tables.get old.kept) (tables.get new.kept) ps → EndsWithin (times * length ps) old.writes new.writes

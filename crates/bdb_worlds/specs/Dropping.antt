@@ -38,7 +38,7 @@ abbrev pub edges_of : List ((ℕ × ℕ) × ℕ) → List (ℕ × ℕ)
 edges_of rows = map (λ r. (r.0.1, r.1)) rows
 
 -- The rows of a world: where its suffix link leads, what leads to it, and its own edges.
-pub record AreRowsOf (t : Tables) (n s : ℕ) (edges : List ((ℕ × ℕ × ℕ) × Unit {0})) (links : List ((ℕ × ℕ) × Unit {0})) (own : List ((ℕ × ℕ) × ℕ)) : Type 0 where
+pub record AreWorldRows (t : Tables) (n s : ℕ) (edges : List ((ℕ × ℕ × ℕ) × Unit {0})) (links : List ((ℕ × ℕ) × Unit {0})) (own : List ((ℕ × ℕ) × ℕ)) : Type 0 where
   pub link : HasAt link_codec t n (Some s)
   pub led : AreUnder led_codec t (num_bytes n) edges
   pub linked : AreUnder linked_codec t (num_bytes n) links
@@ -54,7 +54,7 @@ pub record IsDroppedState (t u : Tables) (n : ℕ) : Type 0 where
   pub led_rows : List ((ℕ × ℕ × ℕ) × Unit {0})
   pub linked_rows : List ((ℕ × ℕ) × Unit {0})
   pub edge_rows : List ((ℕ × ℕ) × ℕ)
-  pub rows : AreRowsOf t n link led_rows linked_rows edge_rows
+  pub rows : AreWorldRows t n link led_rows linked_rows edge_rows
   pub made : u ≡ without_state t n link (pairs_of led_rows) (kids_of linked_rows) (edges_of edge_rows)
 
 -- where a state beyond which no other goes is taken away by its rows, the tables hold the states without it

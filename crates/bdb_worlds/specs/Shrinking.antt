@@ -38,9 +38,9 @@ AreDead t ns path len [] = Unit {0}
 AreDead t ns path len (n ∷ gone) = IsDead t ns (take len path) n × AreDead t (without_name ns n (take len path)) path (len - 1) gone
 
 -- a path stays a state: it is the empty one, or needed
-pub data Stays (t : Tables) (ns : Names) (p : List ℕ) : Type 0 where
-  as_root : p ≡ [] → Stays t ns p
-  as_needed : (n : ℕ) → number_of ns p ≡ Some n → IsNeeded t ns p n → Stays t ns p
+pub data StaysState (t : Tables) (ns : Names) (p : List ℕ) : Type 0 where
+  as_root : p ≡ [] → StaysState t ns p
+  as_needed : (n : ℕ) → number_of ns p ≡ Some n → IsNeeded t ns p n → StaysState t ns p
 
 -- Prefixes of a path went, longest first, each of which could go, up to the first that stays.
 pub record HasShrunk (s : Worlds) (t u : Tables) (path gone : List ℕ) : Type 0 where
@@ -49,7 +49,7 @@ pub record HasShrunk (s : Worlds) (t u : Tables) (path gone : List ℕ) : Type 0
   pub states : HoldsStates s.users (without_prefixes s.names path (length path) gone) u
   pub paths : (w : List ℕ) → is_named (without_prefixes s.names path (length path) gone) w ≡ (is_named s.names w && not (is_prefix w path && nat_lt left (length w)))
   pub dead : AreDead t s.names path (length path) gone
-  pub stays : Stays t (without_prefixes s.names path (length path) gone) (take left path)
+  pub stays : StaysState t (without_prefixes s.names path (length path) gone) (take left path)
 
 -- whichever states the tables hold, among which is a path: prefixes of it with these numbers went
 abbrev pub DropsStates : Tables → Tables → List ℕ → List ℕ → Type 0

@@ -11,7 +11,7 @@ use Rattle.bdb_tables.specs.Names.{is_named, is_listed}
 use Rattle.bdb_tables.specs.States.{HoldsStates}
 use Rattle.bdb_names.specs.Drops.{with_one_user}
 use Rattle.bdb_names.specs.Turned.{edge_set}
-use Rattle.bdb_worlds.specs.Bounds.{RisesWithin}
+use Rattle.bdb_worlds.specs.Bounds.{EndsWithin}
 use Rattle.bdb_worlds.specs.Holding.{Worlds}
 
 -- a world has this number, and none from `low` on below
@@ -58,7 +58,7 @@ WritesDropped old new uid = (s : Worlds) → HoldsStates s.users s.names old.kep
 
 -- whichever states the tables held, no more than two reads were made for each of their worlds, and one
 abbrev pub ReadsWorlds : Seen → Seen → Type 0
-ReadsWorlds old new = (s : Worlds) → HoldsStates s.users s.names old.kept → RisesWithin (2 * length s.names.used + 1) old.reads new.reads
+ReadsWorlds old new = (s : Worlds) → HoldsStates s.users s.names old.kept → EndsWithin (2 * length s.names.used + 1) old.reads new.reads
 
 -- without the edge of a world for a user, where it leads somewhere
 abbrev pub edge_dropped : Tables → Option ℕ → ℕ × ℕ → Tables

@@ -7,7 +7,7 @@ ghost use Rattle.bdb_tables.specs.Codec.{place};
 ghost use Rattle.bdb_tables.specs.Grammar.{InGrammar};
 ghost use Rattle.bdb_tables.specs.InUse.{link_codec};
 ghost use Rattle.bdb_names.specs.Turned.{edge_set, links_led};
-ghost use Rattle.bdb_worlds.specs.Dropping.{AreRowsOf, IsDropped, pairs_led, pairs_of, kids_of, edges_of, edges_dropped, state_dropped, without_state, dropped_writes};
+ghost use Rattle.bdb_worlds.specs.Dropping.{AreWorldRows, IsDropped, pairs_led, pairs_of, kids_of, edges_of, edges_dropped, state_dropped, without_state, dropped_writes};
 
 use crate::leading::{lead_edge, lead_link};
 use bdb_keep::Keeper;
@@ -58,7 +58,7 @@ fn read_rows<K: Keeper>(alloc: Global, keeper: &mut K, wid: u32) -> Result<OwnRo
     requires link { is_some (map.get (K.seen keeper.old).kept (place link_codec wid)) ≡ true }
     ensures rows { IfOk result
         (λ rows.
-        AreRowsOf
+        AreWorldRows
         (K.seen keeper.old).kept wid rows.link rows.led.items rows.linked.items rows.own.items) }
     ensures kept { OnOk result ((K.seen keeper.new).kept ≡ (K.seen keeper.old).kept) }
     ensures writes { (K.seen keeper.new).writes ≡ (K.seen keeper.old).writes }

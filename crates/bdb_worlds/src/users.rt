@@ -3,7 +3,7 @@ ghost use Rattle.std.specs.Prelude.{◌≡◌, true, IfOk, OnOk};
 ghost use Rattle.bdb_base.specs.Causes.{Rises};
 ghost use Rattle.bdb_keep.specs.Seen.{NeverFall, Steps};
 ghost use Rattle.bdb_tables.specs.Grammar.{InGrammar};
-ghost use Rattle.bdb_worlds.specs.Bounds.{RisesWithin};
+ghost use Rattle.bdb_worlds.specs.Bounds.{EndsWithin};
 ghost use Rattle.bdb_worlds.specs.Growth.{SameOutside};
 ghost use Rattle.bdb_worlds.specs.UserEdges.{AddsUser, HasNextNumber, WritesEdges, DropsUser, DropsEdge, WritesDropped, ReadsWorlds};
 
@@ -111,7 +111,7 @@ fn next_number<K: Keeper>(alloc: Global, keeper: &mut K, low: u64) -> Result<Opt
     ensures number { IfOk result (HasNextNumber (K.seen keeper.old).kept low) }
     ensures kept { OnOk result ((K.seen keeper.new).kept ≡ (K.seen keeper.old).kept) }
     ensures reads { OnOk result
-        (RisesWithin 1 (K.seen keeper.old).reads (K.seen keeper.new).reads) }
+        (EndsWithin 1 (K.seen keeper.old).reads (K.seen keeper.new).reads) }
     ensures writes { (K.seen keeper.new).writes ≡ (K.seen keeper.old).writes }
     ensures counts { NeverFall (K.seen keeper.old) (K.seen keeper.new) }
     ensures steps { Steps (K.seen keeper.old) (K.seen keeper.new) result TabError.Fault }

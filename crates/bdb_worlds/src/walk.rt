@@ -4,7 +4,7 @@ ghost use Rattle.bdb_base.specs.Alternation.{alternates};
 ghost use Rattle.bdb_base.specs.Causes.{Rises};
 ghost use Rattle.bdb_keep.specs.Seen.{NeverFall, Steps};
 ghost use Rattle.bdb_tables.specs.Grammar.{InGrammar};
-ghost use Rattle.bdb_worlds.specs.Bounds.{RisesWithin};
+ghost use Rattle.bdb_worlds.specs.Bounds.{EndsWithin};
 ghost use Rattle.bdb_worlds.specs.Holding.{EndsAt, HoldSome, StandsFor};
 
 use bdb_keep::Keeper;
@@ -47,7 +47,7 @@ pub fn deepest_state<K: Keeper>(
     requires states { HoldSome (K.seen keeper.old).kept path.now }
     requires apart { alternates path.now ≡ true }
     ensures at { IfOk result (EndsAt (K.seen keeper.old).kept path.now path.now) }
-    ensures reads { OnOk result (RisesWithin (length path.now + 1) (K.seen keeper.old).reads
+    ensures reads { OnOk result (EndsWithin (length path.now + 1) (K.seen keeper.old).reads
         (K.seen keeper.new).reads) }
     ensures kept { OnOk result ((K.seen keeper.new).kept ≡ (K.seen keeper.old).kept) }
     ensures writes { (K.seen keeper.new).writes ≡ (K.seen keeper.old).writes }

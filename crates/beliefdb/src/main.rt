@@ -6,7 +6,8 @@ ghost use Rattle.std.specs.Prelude.{◌≡◌, false};
 
 use bdb_base::{List, Txt};
 use bdb_io::{NoSource, ReadSource, Source, WriteSink};
-use bdb_keep::{Keeper, QuietKeeper};
+use bdb_keep::Keeper;
+use bdb_memory::QuietKeeper;
 use bdb_sql::SqlKeeper;
 use bdb_top::{Job, WordsError, job_of, run};
 use std::alloc::AllocError;

@@ -2,7 +2,8 @@
 ghost use Rattle.std.specs.Prelude.{◌≡◌, false, IfOk};
 
 use crate::tests::quiet_keeper;
-use bdb_keep::{Keeper, MemKeeper};
+use bdb_keep::Keeper;
+use bdb_memory::MemKeeper;
 use std::alloc::Global;
 use std::test::Fail;
 

@@ -1,28 +1,15 @@
 // Keepers that fail at a call: the commands stand that were committed, and the others can be done afterwards.
-ghost use Rattle.std.specs.Prelude.{◌≡◌, false, IfOk};
+ghost use Rattle.std.specs.Prelude.{◌≡◌, false};
 
 use crate::tests::copying::copy_of;
 use crate::tests::{
-    COMMANDS, End, Left, REPLIES, SCRIPT, ended, first_replies, only, parted, quiet_keeper,
-    quiet_sink, quiet_source, ran, ran_with, told,
+    COMMANDS, End, Left, REPLIES, SCRIPT, ended, first_replies, left_by_call, parted, quiet_keeper,
+    quiet_sink, quiet_source, ran, told,
 };
 use bdb_io::MemSink;
-use bdb_keep::MemKeeper;
+use bdb_memory::MemKeeper;
 use std::alloc::Global;
 use std::test::Fail;
-
-/// What a run leaves of which this call of the keeper fails.
-fn left_by(alloc: Global, call: u32) -> Result<Left, Fail>
-    ensures idle { IfOk result (λ left. left.keeper.seen.running ≡ false) }
-{
-    let keeper = MemKeeper::new(alloc, only(alloc, call)?);
-    ran_with(
-        alloc,
-        quiet_source(alloc, SCRIPT)?,
-        quiet_sink(alloc)?,
-        keeper,
-    )
-}
 
 /// How a run ends that committed so often.
 fn end_of(commits: usize) -> End<'static> {
@@ -88,7 +75,7 @@ fn each_call_fails_once(rt: HostRuntime) -> Result<(), Fail> {
     let alloc = rt.alloc();
     let whole = undisturbed(alloc)?;
     for call in 1..100_000 {
-        let left = left_by(alloc, call)?;
+        let left = left_by_call(alloc, SCRIPT, call)?;
         if left.status == 0 {
             let end = End {
                 status: 0,

@@ -7,7 +7,7 @@ use crate::tests::{
 };
 use bdb_base::List;
 use bdb_gen::generate;
-use bdb_keep::MemKeeper;
+use bdb_memory::MemKeeper;
 use std::alloc::Global;
 use std::test::Fail;
 

@@ -2,7 +2,7 @@
 
 use crate::tests::copying::copy_rows;
 use crate::tests::{SCRIPT, only, quiet_keeper, quiet_sink, quiet_source, ran, told};
-use bdb_keep::MemKeeper;
+use bdb_memory::MemKeeper;
 use std::alloc::Global;
 use std::test::Fail;
 

@@ -1,9 +1,5 @@
 // Sinks that fail at a write: the command of the last reply stands, though its reply wasn't written.
-use crate::tests::{
-    COMMANDS, End, REPLIES, ROOM, SCRIPT, ended, first_replies, only, quiet_keeper, quiet_source,
-    ran_with,
-};
-use bdb_io::MemSink;
+use crate::tests::{COMMANDS, End, REPLIES, SCRIPT, ended, first_replies, left_by_write};
 use std::alloc::Global;
 use std::test::Fail;
 
@@ -26,13 +22,7 @@ fn end_of(write: usize) -> End<'static> {
 
 /// Whether a run ends so where this write fails, and takes no byte.
 fn ends_at(alloc: Global, write: u32) -> Result<bool, Fail> {
-    let out = MemSink::new(alloc, only(alloc, write)?, 0, ROOM)?;
-    let left = ran_with(
-        alloc,
-        quiet_source(alloc, SCRIPT)?,
-        out,
-        quiet_keeper(alloc),
-    )?;
+    let left = left_by_write(alloc, SCRIPT, write)?;
     ended(alloc, SCRIPT, &left, end_of(write as usize))
 }
 

@@ -1,21 +1,11 @@
 // Sources that fail at a read: the commands stand that end in the bytes given before.
 use crate::tests::{
-    COMMANDS, End, Left, REPLIES, SCRIPT, commands_in, ended, first_replies, only, quiet_keeper,
-    quiet_sink, ran_with,
+    COMMANDS, End, REPLIES, SCRIPT, commands_in, ended, first_replies, left_by_read,
 };
-use bdb_io::MemSource;
-use std::alloc::Global;
 use std::test::Fail;
 
 /// How many bytes a read gives.
 const STEP: usize = 64;
-
-/// What a run leaves of which this read fails.
-fn left_by(alloc: Global, read: u32) -> Result<Left, Fail> {
-    let text = Vec::from_slice(alloc, SCRIPT)?;
-    let source = MemSource::new(text, STEP, only(alloc, read)?);
-    ran_with(alloc, source, quiet_sink(alloc)?, quiet_keeper(alloc))
-}
 
 /// The bytes that were given before this read.
 fn given_before(read: u32) -> &'static [u8] {
@@ -37,7 +27,7 @@ fn end_of(read: u32, fails: bool) -> End<'static> {
 fn each_read_fails_once(rt: HostRuntime) -> Result<(), Fail> {
     let alloc = rt.alloc();
     for read in 1..1_000 {
-        let left = left_by(alloc, read)?;
+        let left = left_by_read(alloc, SCRIPT, STEP, read)?;
         let fails = left.status != 0;
         assert!(rt;
             ended(alloc, SCRIPT, &left, end_of(read, fails))?,

@@ -2,7 +2,7 @@
 use crate::tests::{Left, ROOM, left_by, only, quiet_keeper, quiet_sink};
 use bdb_base::List;
 use bdb_io::{MemSink, MemSource};
-use bdb_keep::MemKeeper;
+use bdb_memory::MemKeeper;
 use std::alloc::Global;
 use std::test::Fail;
 

@@ -1,13 +1,9 @@
 // A script with undo and redo of which a device fails: the base stands that the commands left which were done, also where the next
 // one was to take a change back.
-ghost use Rattle.std.specs.Prelude.{◌≡◌, false, IfOk};
-
 use crate::tests::{
-    End, Left, ROOM, commands_in, ended, first_replies, only, quiet_keeper, quiet_sink,
-    quiet_source, ran_with, replies_in,
+    End, Left, commands_in, ended, first_replies, left_by_call, left_by_none, left_by_read,
+    left_by_write, replies_in,
 };
-use bdb_io::{MemSink, MemSource};
-use bdb_keep::MemKeeper;
 use std::alloc::Global;
 use std::test::Fail;
 
@@ -39,19 +35,6 @@ fn end_of(status: u8, done: usize, commits: usize) -> End<'static> {
     }
 }
 
-/// What a run leaves of which this call of the keeper fails.
-fn left_by_call(alloc: Global, call: u32) -> Result<Left, Fail>
-    ensures idle { IfOk result (λ left. left.keeper.seen.running ≡ false) }
-{
-    let keeper = MemKeeper::new(alloc, only(alloc, call)?);
-    ran_with(
-        alloc,
-        quiet_source(alloc, SCRIPT)?,
-        quiet_sink(alloc)?,
-        keeper,
-    )
-}
-
 /// Whether a run of which a call of the keeper failed, if it was made, ended as it has to.
 fn ended_by_call(alloc: Global, left: &Left) -> Result<bool, Fail> {
     let commits = left.keeper.commits() as usize;
@@ -65,7 +48,7 @@ fn ended_by_call(alloc: Global, left: &Left) -> Result<bool, Fail> {
 fn each_call_fails_once(rt: HostRuntime) -> Result<(), Fail> {
     let alloc = rt.alloc();
     for call in 1..100_000 {
-        let left = left_by_call(alloc, call)?;
+        let left = left_by_call(alloc, SCRIPT, call)?;
         assert!(rt; ended_by_call(alloc, &left)?, "call {call}");
         if left.status == 0 {
             assert!(rt; 200 < call);
@@ -78,13 +61,7 @@ fn each_call_fails_once(rt: HostRuntime) -> Result<(), Fail> {
 
 /// Whether a run ends as it has to where this write fails, and takes no byte. The command stands whose reply it was to write.
 fn ends_at_write(alloc: Global, write: u32) -> Result<bool, Fail> {
-    let out = MemSink::new(alloc, only(alloc, write)?, 0, ROOM)?;
-    let left = ran_with(
-        alloc,
-        quiet_source(alloc, SCRIPT)?,
-        out,
-        quiet_keeper(alloc),
-    )?;
+    let left = left_by_write(alloc, SCRIPT, write)?;
     let write = write as usize;
     let end = if write <= COMMANDS {
         end_of(4, write.saturating_sub(1), write.saturating_add(1))
@@ -102,13 +79,6 @@ fn each_write_fails_once(rt: HostRuntime) -> Result<(), Fail> {
     Ok(())
 }
 
-/// What a run leaves of which this read fails.
-fn left_by_read(alloc: Global, read: u32) -> Result<Left, Fail> {
-    let text = Vec::from_slice(alloc, SCRIPT)?;
-    let source = MemSource::new(text, STEP, only(alloc, read)?);
-    ran_with(alloc, source, quiet_sink(alloc)?, quiet_keeper(alloc))
-}
-
 /// Whether a run of which this read failed, if it was made, ended as it has to: the commands stand that end in the bytes given
 /// before.
 fn ended_by_read(alloc: Global, read: u32, left: &Left) -> Result<bool, Fail> {
@@ -124,7 +94,7 @@ fn ended_by_read(alloc: Global, read: u32, left: &Left) -> Result<bool, Fail> {
 fn each_read_fails_once(rt: HostRuntime) -> Result<(), Fail> {
     let alloc = rt.alloc();
     for read in 1..1_000 {
-        let left = left_by_read(alloc, read)?;
+        let left = left_by_read(alloc, SCRIPT, STEP, read)?;
         assert!(rt; ended_by_read(alloc, read, &left)?, "read {read}");
         if left.status == 0 {
             assert!(rt; 20 < read);
@@ -140,12 +110,7 @@ fn the_script_is_carried_out(rt: HostRuntime) -> Result<(), Fail> {
     let alloc = rt.alloc();
     assert_eq!(rt; commands_in(SCRIPT), COMMANDS);
     assert_eq!(rt; replies_in(REPLIES), COMMANDS);
-    let left = ran_with(
-        alloc,
-        quiet_source(alloc, SCRIPT)?,
-        quiet_sink(alloc)?,
-        quiet_keeper(alloc),
-    )?;
+    let left = left_by_none(alloc, SCRIPT)?;
     assert_eq!(rt; left.status, 0);
     assert_eq!(rt; left.out.bytes(), REPLIES);
     Ok(())

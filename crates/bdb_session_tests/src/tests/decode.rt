@@ -3,7 +3,8 @@ ghost use Rattle.std.specs.Prelude.{◌≡◌, false, IfOk};
 
 use bdb_base::Base;
 use bdb_decode::{OpenError, Stand, decode, stand_of};
-use bdb_keep::QuietKeeper;
+use bdb_memory::QuietKeeper;
+use bdb_samples::bytes_of;
 use std::alloc::Global;
 use std::test::Fail;
 
@@ -45,14 +46,6 @@ fn set_all(alloc: Global, keeper: &mut QuietKeeper, lines: &str) -> Result<(), F
         set(alloc, keeper, line)?;
     }
     Ok(())
-}
-
-/// The bytes of hexadecimal digits; a dot has none.
-fn bytes_of(alloc: Global, digits: &str) -> Result<Vec<u8>, Fail> {
-    if digits == "." {
-        return Ok(Vec::new(alloc));
-    }
-    Ok(hex::decode(alloc, digits)?)
 }
 
 /// A keeper with the rows of the former format, changed so.

@@ -2,7 +2,7 @@
 ghost use Rattle.std.specs.Prelude.{◌≡◌, length, IfOk};
 
 use bdb_base::List;
-use bdb_keep::MemKeeper;
+use bdb_memory::MemKeeper;
 use bdb_session::{Lines, Session};
 use std::alloc::{AllocError, Global};
 use std::test::Fail;

@@ -8,7 +8,8 @@ ghost use Rattle.bdb_catalog.specs.Bases.{StoresValid};
 
 use bdb_base::{Base, append_decimal};
 use bdb_canon::{Canon, Counts};
-use bdb_keep::{Keeper, QuietKeeper};
+use bdb_keep::Keeper;
+use bdb_memory::QuietKeeper;
 use bdb_samples::{reported, text_of};
 use bdb_stored::{
     NamedWorld, canon_of, counts_of, place_of_number, user_numbers, worlds_in_order,

@@ -1,9 +1,9 @@
 // Scripts, and their replies.
 ghost use Rattle.std.specs.Prelude.{◌≡◌, ◌≤◌, false};
 
-use bdb_base::{List, Txt};
 use bdb_io::{MemSink, QuietSource};
 use bdb_keep::Keeper;
+use bdb_samples::words_of;
 use bdb_top::run;
 use std::alloc::Global;
 use std::test::Fail;
@@ -138,15 +138,6 @@ pub fn ran<K: Keeper>(
     let words = words_of(alloc, job)?;
     let mut source = QuietSource::new(text_of(alloc, part)?);
     Ok(run(alloc, words.as_slice(), &mut source, replies, keeper))
-}
-
-/// The words of a line.
-fn words_of(alloc: Global, line: &str) -> Result<List<Txt>, Fail> {
-    let mut words = List::new(alloc);
-    for word in line.split_whitespace() {
-        words.push(Txt::try_new(alloc, word)?)?;
-    }
-    Ok(words)
 }
 
 /// The text of these commands.

@@ -1,7 +1,8 @@
 // Changes of rows that no command makes, told by lines of digits.
 ghost use Rattle.std.specs.Prelude.{◌≡◌, Bool, false};
 
-use bdb_keep::{MemKeeper, QuietKeeper};
+use bdb_memory::{MemKeeper, QuietKeeper};
+use bdb_samples::bytes_of;
 use std::alloc::{AllocError, Global};
 use std::test::Fail;
 
@@ -56,14 +57,6 @@ impl Settable for MemKeeper {
             }
         }
     }
-}
-
-/// The bytes of hexadecimal digits; a dot has none.
-fn bytes_of(alloc: Global, digits: &str) -> Result<Vec<u8>, Fail> {
-    if digits == "." {
-        return Ok(Vec::new(alloc));
-    }
-    Ok(hex::decode(alloc, digits)?)
 }
 
 /// The changes that a line tells.

@@ -1,8 +1,8 @@
 // Tests of copies, over rows of the former format written by hand.
 ghost use Rattle.std.specs.Prelude.{◌≤◌};
 
-use bdb_former::respelled_copy;
-use bdb_keep::QuietKeeper;
+use bdb_copy::respelled_copy;
+use bdb_memory::QuietKeeper;
 use std::alloc::Global;
 use std::test::Fail;
 

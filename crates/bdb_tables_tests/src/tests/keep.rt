@@ -2,7 +2,8 @@
 ghost use Rattle.std.specs.Prelude.{◌≡◌, false, IfOk};
 
 use bdb_base::List;
-use bdb_keep::{KeepError, Keeper, MemKeeper, QuietKeeper, Span, Store};
+use bdb_keep::{KeepError, Keeper, Span};
+use bdb_memory::{MemKeeper, QuietKeeper, Store};
 use std::alloc::{AllocError, Global};
 use std::test::Fail;
 

@@ -2,7 +2,8 @@
 ghost use Rattle.std.specs.Prelude.{◌≡◌, ◌≤◌, false, true, OnOk, OnErr, IfOk};
 
 use bdb_base::List;
-use bdb_keep::{KeepError, Keeper, KeyEnd, MemKeeper};
+use bdb_keep::{KeepError, Keeper, KeyEnd};
+use bdb_memory::MemKeeper;
 use std::alloc::{AllocError, Global};
 use std::test::Fail;
 

@@ -4,8 +4,9 @@ ghost use Rattle.bdb_tables.specs.Grammar.{InGrammar};
 ghost use Rattle.bdb_tables.specs.InUse.{HaveKeyTexts, MayBePlain};
 
 use bdb_base::{List, Path, Sign, Tuple, Txt, Value};
-use bdb_keep::{Keeper, QuietKeeper};
+use bdb_keep::Keeper;
 use bdb_key::rel_of;
+use bdb_memory::QuietKeeper;
 use bdb_tables::{
     DepthTab, EdgeIx, EdgeTab, PlainTab, RelTab, Tab, TabError, ValTab, clear_rows, copy_rows,
     first_gap, next, put, put_pair, rows_under, stored_key_length, write_rows,

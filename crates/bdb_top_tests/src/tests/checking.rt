@@ -3,7 +3,8 @@ ghost use Rattle.std.specs.Prelude.{◌≡◌, false};
 
 use crate::tests::{Left, SETUP, listed, ran, ran_words, sink};
 use bdb_io::{MemSink, MemSource};
-use bdb_keep::{Keeper, MemKeeper, QuietKeeper};
+use bdb_keep::Keeper;
+use bdb_memory::{MemKeeper, QuietKeeper};
 use std::alloc::Global;
 use std::test::Fail;
 

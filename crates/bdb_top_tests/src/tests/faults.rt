@@ -2,7 +2,7 @@
 use crate::tests::{Left, ROOM, listed, ran, ran_failing, ran_in_steps, ran_quietly};
 use bdb_base::List;
 use bdb_io::MemSink;
-use bdb_keep::MemKeeper;
+use bdb_memory::MemKeeper;
 use std::alloc::Global;
 use std::test::Fail;
 

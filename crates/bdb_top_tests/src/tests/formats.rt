@@ -4,7 +4,8 @@ ghost use Rattle.std.specs.Prelude.{◌≡◌, false, IfOk};
 use crate::tests::checking::checked;
 use crate::tests::{Left, SETUP, ran, ran_quietly};
 use bdb_base::List;
-use bdb_keep::MemKeeper;
+use bdb_memory::MemKeeper;
+use bdb_samples::bytes_of;
 use std::alloc::Global;
 use std::test::Fail;
 
@@ -46,14 +47,6 @@ const LATER: [&str; 4] = [
     "0b 0000000000000000000000010273310000000000 00000001",
     "0b 0000000100000000000000010273310000000000 00000003",
 ];
-
-/// The bytes of hexadecimal digits; a dot has none.
-fn bytes_of(alloc: Global, digits: &str) -> Result<Vec<u8>, Fail> {
-    if digits == "." {
-        return Ok(Vec::new(alloc));
-    }
-    Ok(hex::decode(alloc, digits)?)
-}
 
 /// Presets the row of these words.
 fn preset(alloc: Global, told: &str, keeper: &mut MemKeeper) -> Result<(), Fail>

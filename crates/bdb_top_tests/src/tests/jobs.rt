@@ -1,5 +1,5 @@
 // The words of a command line, and generated scripts.
-use crate::tests::{Left, listed, ran_from, words_of};
+use crate::tests::{Left, listed, ran_from};
 use bdb_base::Txt;
 use bdb_io::MemSource;
 use bdb_top::job_of;

@@ -2,8 +2,8 @@ use Rattle.std.proofs.Common.{◌∙◌, ◌+◌, ◌-◌, true, false, List, So
 use Rattle.std.specs.Option.{option_copied}
 use Rattle.bdb_base.specs.declared.kinds.Value.{Value}
 use Rattle.bdb_catalog.specs.Taking.{values_from}
-use Rattle.bdb_tables.specs.Beginnings.{HasPutValues}
-use Rattle.bdb_tables.proofs.BeginningLemmas.{put_more, put_none, put_unwritten}
+use Rattle.bdb_tables.specs.Prefixes.{HasPutValues}
+use Rattle.bdb_tables.proofs.PrefixLemmas.{put_more, put_none, put_unwritten}
 use Rattle.bdb_catalog.proofs.AskingLemmas.{all_columns, none_left, from_column}
 use Rattle.bdb_catalog.proofs.asking.put_asked.Goals as goal
 

@@ -1,6 +1,6 @@
 use Rattle.std.proofs.Common.{◌-◌, Bool, List, ℕ}
 use Rattle.bdb_catalog.specs.Taking.{values_asked, values_from}
-use Rattle.bdb_tables.specs.Beginnings.{HasPutValues}
+use Rattle.bdb_tables.specs.Prefixes.{HasPutValues}
 use Rattle.bdb_catalog.proofs.asking.put_asked.Given as goal
 
 -- what comes of the columns that are left comes of all

@@ -5,12 +5,13 @@ use Rattle.bdb_key.specs.Bytes.{num_bytes, values_bytes}
 use Rattle.bdb_key.specs.Grammar.{ArePlain}
 use Rattle.bdb_tables.specs.Grammar.{InGrammar}
 use Rattle.bdb_tables.specs.Lengths.{IsKeyLength}
-use Rattle.bdb_tables.specs.Beginnings.{HasPutValues, is_written}
+use Rattle.bdb_base.specs.Bases.{is_written}
+use Rattle.bdb_tables.specs.Prefixes.{HasPutValues}
 use Rattle.bdb_val.specs.Reads.{HaveTuples}
-use Rattle.bdb_worlds.specs.Bounds.{RisesWithin}
+use Rattle.bdb_worlds.specs.Bounds.{EndsWithin}
 use Rattle.bdb_worlds.specs.Holding.{HoldSome}
 use Rattle.bdb_catalog.specs.Showing.{FindsState}
-use Rattle.bdb_catalog.specs.Taking.{AreTuplesRead, beginning, statements_of, values_asked}
+use Rattle.bdb_catalog.specs.Taking.{AreTuplesRead, key_prefix, statements_of, values_asked}
 use Rattle.bdb_catalog.proofs.StoredFacts.{path_grammar, path_states, path_tuples}
 use Rattle.bdb_catalog.proofs.TakingLemmas.{none_at_paths, none_with_values, one_read_more, read_are_taken, reads_are_few}
 use Rattle.bdb_catalog.proofs.taking.taken.Goals as goal
@@ -52,7 +53,7 @@ returns-in-Ok-false-clause-taken g c =
     let n = c.in-Ok-stored_key_length.n in
     let state : FindsState kept path found = subst (λ p. FindsState kept p found) c.as_slice.ensures.users c.in-Ok.ensures.found in
     let out : list_all is_written (values_asked c.as_slice-conds.result.now n) ≡ false =
-    subst (λ b. HasPutValues b (c.new-prefix.result.items ++ (num_bytes found.0 ++ num_bytes rel ++ num_bytes n)) c.put_beginning.new.prefix.items (values_asked c.as_slice-conds.result.now n)) c.in-Ok-false.field-0-test
+    subst (λ b. HasPutValues b (c.new-prefix.result.items ++ (num_bytes found.0 ++ num_bytes rel ++ num_bytes n)) c.put_key_prefix.new.prefix.items (values_asked c.as_slice-conds.result.now n)) c.in-Ok-false.field-0-test
     c.in-Ok-false.ensures in
     let none : list_all is_written (values_asked conds n) ≡ false = subst (λ (cs : List Cond). list_all is_written (values_asked cs n) ≡ false) c.as_slice-conds.ensures out in
     λ b has. c.new-in-Ok-false.ensures ∙ none_with_values kept path found.0 found.1 state s rel conds b has n none
@@ -72,15 +73,15 @@ returns-in-Ok-statements_of-clause-taken g c =
     let us = c.in-Ok-tuples_under.tuples.items in
     let same : mid.kept ≡ kept = c.in-Ok-stored_key_length.ensures.read.kept ∙ c.in-Ok.ensures.kept in
     let long : IsKeyLength kept rel n = subst (λ t. IsKeyLength t rel n) c.in-Ok.ensures.kept c.in-Ok-stored_key_length.ensures.length in
-    let put : HasPutValues true (c.new-prefix.result.items ++ (num_bytes found.0 ++ num_bytes rel ++ num_bytes n)) c.put_beginning.new.prefix.items (values_asked c.as_slice-conds.result.now n) =
-    subst (λ b. HasPutValues b (c.new-prefix.result.items ++ (num_bytes found.0 ++ num_bytes rel ++ num_bytes n)) c.put_beginning.new.prefix.items (values_asked c.as_slice-conds.result.now n)) c.in-Ok-true.field-0-test
+    let put : HasPutValues true (c.new-prefix.result.items ++ (num_bytes found.0 ++ num_bytes rel ++ num_bytes n)) c.put_key_prefix.new.prefix.items (values_asked c.as_slice-conds.result.now n) =
+    subst (λ b. HasPutValues b (c.new-prefix.result.items ++ (num_bytes found.0 ++ num_bytes rel ++ num_bytes n)) c.put_key_prefix.new.prefix.items (values_asked c.as_slice-conds.result.now n)) c.in-Ok-true.field-0-test
     c.in-Ok-true.ensures in
-    let begins : c.as_slice-2.result.now ≡ beginning n found.0 rel (values_asked c.as_slice-conds.result.now n) =
+    let begins : c.as_slice-2.result.now ≡ key_prefix n found.0 rel (values_asked c.as_slice-conds.result.now n) =
     c.as_slice-2.ensures.value ∙ put.0 ∙ ap (λ (x : List ℕ). (x ++ (num_bytes found.0 ++ num_bytes rel ++ num_bytes n)) ++ values_bytes (values_asked c.as_slice-conds.result.now n)) c.new-prefix.ensures.items in
-    let read : AreTuplesRead mid new (beginning n found.0 rel (values_asked c.as_slice-conds.result.now n)) s us = subst (λ p. AreTuplesRead mid new p s us) begins c.in-Ok-tuples_under.ensures.tuples in
+    let read : AreTuplesRead mid new (key_prefix n found.0 rel (values_asked c.as_slice-conds.result.now n)) s us = subst (λ p. AreTuplesRead mid new p s us) begins c.in-Ok-tuples_under.ensures.tuples in
     let plain : ArePlain (values_asked conds n) = subst (λ (cs : List Cond). ArePlain (values_asked cs n)) c.as_slice-conds.ensures put.1 in
-    let asked : AreTuplesRead mid new (beginning n found.0 rel (values_asked conds n)) s us =
-    subst (λ (cs : List Cond). AreTuplesRead mid new (beginning n found.0 rel (values_asked cs n)) s us) c.as_slice-conds.ensures read in
+    let asked : AreTuplesRead mid new (key_prefix n found.0 rel (values_asked conds n)) s us =
+    subst (λ (cs : List Cond). AreTuplesRead mid new (key_prefix n found.0 rel (values_asked cs n)) s us) c.as_slice-conds.ensures read in
     λ b has. c.in-Ok-statements_of.ensures ∙ ap (λ xs. statements_of path s xs us) c.as_slice-conds.ensures
     ∙ read_are_taken kept path found.0 found.1 state s rel conds b has c.if-not-own.false c.ranges.rel.fits n long mid new same us plain asked
 
@@ -100,17 +101,17 @@ returns-in-Ok-statements_of-clause-reads g c =
     let us = c.in-Ok-tuples_under.tuples.items in
     let same : mid.kept ≡ kept = c.in-Ok-stored_key_length.ensures.read.kept ∙ c.in-Ok.ensures.kept in
     let long : IsKeyLength kept rel n = subst (λ t. IsKeyLength t rel n) c.in-Ok.ensures.kept c.in-Ok-stored_key_length.ensures.length in
-    let put : HasPutValues true (c.new-prefix.result.items ++ (num_bytes found.0 ++ num_bytes rel ++ num_bytes n)) c.put_beginning.new.prefix.items (values_asked c.as_slice-conds.result.now n) =
-    subst (λ b. HasPutValues b (c.new-prefix.result.items ++ (num_bytes found.0 ++ num_bytes rel ++ num_bytes n)) c.put_beginning.new.prefix.items (values_asked c.as_slice-conds.result.now n)) c.in-Ok-true.field-0-test
+    let put : HasPutValues true (c.new-prefix.result.items ++ (num_bytes found.0 ++ num_bytes rel ++ num_bytes n)) c.put_key_prefix.new.prefix.items (values_asked c.as_slice-conds.result.now n) =
+    subst (λ b. HasPutValues b (c.new-prefix.result.items ++ (num_bytes found.0 ++ num_bytes rel ++ num_bytes n)) c.put_key_prefix.new.prefix.items (values_asked c.as_slice-conds.result.now n)) c.in-Ok-true.field-0-test
     c.in-Ok-true.ensures in
-    let begins : c.as_slice-2.result.now ≡ beginning n found.0 rel (values_asked c.as_slice-conds.result.now n) =
+    let begins : c.as_slice-2.result.now ≡ key_prefix n found.0 rel (values_asked c.as_slice-conds.result.now n) =
     c.as_slice-2.ensures.value ∙ put.0 ∙ ap (λ (x : List ℕ). (x ++ (num_bytes found.0 ++ num_bytes rel ++ num_bytes n)) ++ values_bytes (values_asked c.as_slice-conds.result.now n)) c.new-prefix.ensures.items in
-    let read : AreTuplesRead mid new (beginning n found.0 rel (values_asked c.as_slice-conds.result.now n)) s us = subst (λ p. AreTuplesRead mid new p s us) begins c.in-Ok-tuples_under.ensures.tuples in
+    let read : AreTuplesRead mid new (key_prefix n found.0 rel (values_asked c.as_slice-conds.result.now n)) s us = subst (λ p. AreTuplesRead mid new p s us) begins c.in-Ok-tuples_under.ensures.tuples in
     let plain : ArePlain (values_asked conds n) = subst (λ (cs : List Cond). ArePlain (values_asked cs n)) c.as_slice-conds.ensures put.1 in
-    let asked : AreTuplesRead mid new (beginning n found.0 rel (values_asked conds n)) s us =
-    subst (λ (cs : List Cond). AreTuplesRead mid new (beginning n found.0 rel (values_asked cs n)) s us) c.as_slice-conds.ensures read in
+    let asked : AreTuplesRead mid new (key_prefix n found.0 rel (values_asked conds n)) s us =
+    subst (λ (cs : List Cond). AreTuplesRead mid new (key_prefix n found.0 rel (values_asked cs n)) s us) c.as_slice-conds.ensures read in
     let start = g.K.Keeper.seen c.state_of.new.keeper in
-    let found_so : RisesWithin (length path + 1) old.reads start.reads = subst (λ p. RisesWithin (length p + 1) old.reads start.reads) c.as_slice.ensures.users c.in-Ok.ensures.reads in
+    let found_so : EndsWithin (length path + 1) old.reads start.reads = subst (λ p. EndsWithin (length p + 1) old.reads start.reads) c.as_slice.ensures.users c.in-Ok.ensures.reads in
     let first = one_read_more (length path) old.reads start.reads mid.reads found_so c.in-Ok-stored_key_length.ensures.reads in
     λ b has. reads_are_few kept path found.0 found.1 state s rel conds b has c.if-not-own.false c.ranges.rel.fits n long mid new same us plain asked
     old.reads c.in-Ok-tuples_under.ensures.read.counts.reads first

@@ -3,10 +3,10 @@ use Rattle.std.proofs.lemmas.Bool.{ltb-true}
 use Rattle.bdb_base.specs.Bases.{key_lengths}
 use Rattle.bdb_base.specs.Limits.{most_statements}
 use Rattle.bdb_base.specs.declared.kinds.Stmt.{Stmt}
+use Rattle.bdb_base.proofs.Numbers.{not_less}
 use Rattle.bdb_tables.specs.declared.tab.TabError.TheVariants.{Fault}
 use Rattle.bdb_tables.proofs.Loops.{reading_more}
 use Rattle.bdb_entries.proofs.ReadLemmas.{none_told, some_told}
-use Rattle.bdb_decode.proofs.FewLemmas.{not_many}
 use Rattle.bdb_decode.proofs.ManyLemmas.{said_many}
 use Rattle.bdb_decode.proofs.RowLemmas.{foreign_misplaced, row_misplaced, said_all, said_more, said_none}
 use Rattle.bdb_decode.proofs.rows.said_statements.Goals as goal
@@ -65,5 +65,5 @@ loop-preserved g c =
     reading_more old now new w.field-0 Fault c.loop.invariant w.ensures.read (
       said_more (key_lengths c.args.catalog.now.rels) c.args.worlds.now c.args.tuples.now old.kept now.kept c.loop.low.items c.next_raw.new.low.items w.field-0-0 w.row c.loop.stmts.items c.push_said.new.stmts.items p.field-0
           c.loop.invariant.kept w.field-0-0-is p.field-0-test p.ensures.placed p.ensures.said c.loop.invariant.read.0 (some_told _ _ w.field-0 w.field-0-0 w.field-0-is w.ensures.found),
-      not_many most_statements (length c.push_said.new.stmts.items) few,
+      not_less most_statements (length c.push_said.new.stmts.items) few,
     )

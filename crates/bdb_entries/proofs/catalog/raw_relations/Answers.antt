@@ -1,7 +1,8 @@
 use Rattle.std.proofs.Common.{None}
 use Rattle.bdb_tables.specs.declared.tab.TabError.TheVariants.{Fault}
+use Rattle.bdb_tables.proofs.Loops.{read_answers}
 use Rattle.bdb_entries.proofs.NumberedLemmas.{tells_relations}
-use Rattle.bdb_entries.proofs.ReadLemmas.{read_with, some_told}
+use Rattle.bdb_entries.proofs.ReadLemmas.{some_told}
 use Rattle.bdb_entries.proofs.catalog.raw_relations.Goals as goal
 
 pub returns-in-Ok-clause-relations : goal.returns-in-Ok-clause-relations
@@ -10,4 +11,4 @@ returns-in-Ok-clause-relations g c =
     (some_told _ _ c.in-Ok-Some.field-0 c.in-Ok-Some.rows c.in-Ok-Some.field-0-is c.in-Ok-Some.ensures.rows) c.in-Ok.ensures
 
 pub returns-in-Ok-None-clause-read : goal.returns-in-Ok-None-clause-read
-returns-in-Ok-None-clause-read g c = read_with _ _ c.in-Ok-None.field-0 None Fault c.in-Ok-None.ensures.read
+returns-in-Ok-None-clause-read g c = read_answers _ _ c.in-Ok-None.field-0 None Fault c.in-Ok-None.ensures.read

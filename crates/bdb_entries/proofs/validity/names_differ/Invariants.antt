@@ -6,4 +6,4 @@ abbrev pub decreases-loop-rest : goal.decreases-loop-rest
 decreases-loop-rest g l = length l.rest
 
 abbrev pub invariant-loop-rest : goal.invariant-loop-rest
-invariant-loop-rest g l = names_differ g.X.Named.name_of l.fn.items ≡ names_differ g.X.Named.name_of l.rest
+invariant-loop-rest g l = names_differ g.X.HasName.name_of l.fn.items ≡ names_differ g.X.HasName.name_of l.rest

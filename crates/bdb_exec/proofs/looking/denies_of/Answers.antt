@@ -13,10 +13,10 @@ returns-in-Ok-denies_with-clause-denies g c =
 
 pub returns-in-Ok-denies_with-clause-reads : goal.returns-in-Ok-denies_with-clause-reads
 returns-in-Ok-denies_with-clause-reads g c =
-    let mid = (g.K.Keeper.seen c.key_length_of.new.keeper).reads in
+    let mid = (g.K.Keeper.seen c.read_key_length.new.keeper).reads in
     let new = (g.K.Keeper.seen c.denies_with.new.keeper).reads in
     let t = (g.K.Keeper.seen c.args.keeper.now).kept in
     let own : new ≤ mid + (length (rows_of_key (take ((sight_of t).keys c.args.rel) c.args.tuple.now.vals) ((sight_of t).rows c.args.world c.args.rel)) + 2) =
     subst (λ u. new ≤ mid + (length (rows_of_key (take ((sight_of t).keys c.args.rel) c.args.tuple.now.vals) ((sight_of u).rows c.args.world c.args.rel)) + 2)) c.in-Ok.ensures.looks.kept
-    (subst (λ n. new ≤ mid + (length (rows_of_key (take n c.args.tuple.now.vals) ((sight_of (g.K.Keeper.seen c.key_length_of.new.keeper).kept).rows c.args.world c.args.rel)) + 2)) c.in-Ok.ensures.length c.in-Ok-denies_with.ensures.reads) in
+    (subst (λ n. new ≤ mid + (length (rows_of_key (take n c.args.tuple.now.vals) ((sight_of (g.K.Keeper.seen c.read_key_length.new.keeper).kept).rows c.args.world c.args.rel)) + 2)) c.in-Ok.ensures.length c.in-Ok-denies_with.ensures.reads) in
     omega (arith, own, c.in-Ok.ensures.reads)

@@ -2,15 +2,16 @@ use Rattle.std.proofs.Common.{◌≡◌, ◌∙◌, ◌≤◌, List, ap, sym, su
 use Rattle.std.specs.List.{list_all, list_any}
 use Rattle.bdb_base.specs.declared.kinds.Value.{Value}
 use Rattle.bdb_base.specs.Clash.{key_of}
+use Rattle.bdb_base.proofs.ListLemmas.{length_map}
 use Rattle.bdb_key.specs.Grammar.{AreKeyVals, IsNum}
 use Rattle.bdb_tables.specs.Codec.{TableFits}
 use Rattle.bdb_tables.specs.GroupMarks.{AreNumbered, group_bytes, numbered}
 use Rattle.bdb_tables.specs.InUse.{val_codec}
-use Rattle.bdb_tables.specs.Beginnings.{is_written}
+use Rattle.bdb_base.specs.Bases.{is_written}
 use Rattle.bdb_exec.specs.Keys.{rows_of_key}
 use Rattle.bdb_exec.specs.Rows.{mark_denies}
 use Rattle.bdb_exec.specs.Seen.{sight_of}
-use Rattle.bdb_exec.proofs.DenyLemmas.{denied_by_number, denied_is, denied_reads, length_map, unwritten_denied}
+use Rattle.bdb_exec.proofs.DenyLemmas.{denied_by_number, denied_is, denied_reads, unwritten_denied}
 use Rattle.bdb_exec.proofs.LengthLemmas.{key_shown, key_texts, keys_sized}
 use Rattle.bdb_exec.proofs.looking.denies_with.Goals as goal
 

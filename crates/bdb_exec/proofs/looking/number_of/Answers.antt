@@ -1,6 +1,6 @@
 use Rattle.std.proofs.Common.{◌≡◌, ◌∙◌, ◌<◌, length, true, ap, sym, rules}
 use Rattle.std.specs.List.{list_all}
-use Rattle.bdb_tables.specs.Beginnings.{is_written}
+use Rattle.bdb_base.specs.Bases.{is_written}
 use Rattle.bdb_exec.proofs.LookingLemmas.{written_texts, no_number, number_is}
 use Rattle.bdb_exec.proofs.looking.number_of.Goals as goal
 

@@ -3,11 +3,10 @@ use Rattle.std.proofs.lemmas.List.{get_or_default}
 use Rattle.bdb_base.specs.declared.kinds.Sign.TheVariants.{Plus}
 use Rattle.bdb_tables.specs.Marks.{Mark}
 use Rattle.bdb_tables.specs.declared.tab.TabError.TheVariants.{Fault}
-use Rattle.bdb_tables.proofs.Loops.{all_at_index}
+use Rattle.bdb_tables.proofs.Loops.{all_at_index, only_reads_more}
 use Rattle.bdb_exec.specs.Memos.{Recalls}
 use Rattle.bdb_exec.specs.Readable.{CanBeRun}
 use Rattle.bdb_exec.specs.Rows.{HasTuple, HasPushed}
-use Rattle.bdb_exec.proofs.LookLemmas.{looking_more}
 use Rattle.bdb_exec.proofs.WorldLemmas.{pushed_more}
 use Rattle.bdb_exec.proofs.looking.plus_of.Goals as goal
 
@@ -40,7 +39,7 @@ loop-entry-preserved g c =
     let pushed : HasPushed old.kept e.0 e.1.0 c.loop-entry.tuples c.push_plus.new.tuples =
     subst (λ u. HasPushed u e.0 e.1.0 c.loop-entry.tuples c.push_plus.new.tuples) h.kept c.in-Ok.ensures.pushed in
     let reads : new.reads ≤ old.reads + (i + 1) = omega (arith, c.in-Ok.ensures.reads, h.read.reads) in
-    looking_more old now new c.in-Ok.field-0 Fault h c.in-Ok.ensures.looks (record {
+    only_reads_more old now new c.in-Ok.field-0 Fault h c.in-Ok.ensures.looks (record {
       tuples = pushed_more old.kept c.args.entries.now i e c.loop-entry.tuples c.push_plus.new.tuples c.loop-entry-test.true (get_or_default c.args.entries.now i none e c.loop-entry-test.true) h.read.tuples pushed;
       reads = reads;
       memo = subst (λ u. Recalls u c.push_plus.new.memo) h.kept c.in-Ok.ensures.memo;

@@ -3,8 +3,9 @@ use Rattle.std.specs.List.{list_all}
 use Rattle.bdb_key.specs.Bytes.{num_bytes, values_bytes}
 use Rattle.bdb_plan.specs.Running.{plus_tuples}
 use Rattle.bdb_exec.specs.Keys.{values_behind}
-use Rattle.bdb_exec.specs.Rows.{key_prefix, world_prefix}
-use Rattle.bdb_tables.specs.Beginnings.{HasPutValues, is_written}
+use Rattle.bdb_exec.specs.Rows.{key_prefix, relation_prefix}
+use Rattle.bdb_base.specs.Bases.{is_written}
+use Rattle.bdb_tables.specs.Prefixes.{HasPutValues}
 use Rattle.bdb_exec.specs.Seen.{sight_of, signed_under}
 use Rattle.bdb_exec.proofs.DenyLemmas.{key_tuples, key_rows, unwritten}
 use Rattle.bdb_exec.proofs.PrefixLemmas.{few_asked}
@@ -18,7 +19,7 @@ returns-in-Ok-false-clause-tuples g c =
     let vs = values_behind c.args.slots.now c.args.item c.args.behind.now c.args.n 0 in
     let few : length vs ≤ (sight_of t).keys rel = subst (λ k. length vs ≤ k) c.requires.length (few_asked c.args.slots.now c.args.item c.args.behind.now c.args.n 0) in
     let none : list_all is_written vs ≡ false =
-    subst (λ b. HasPutValues b (c.new-prefix.result.items ++ (world_prefix w rel ++ num_bytes c.args.n)) c.put_key.new.prefix.items vs) c.in-Ok-false.field-0-test c.in-Ok-false.ensures in
+    subst (λ b. HasPutValues b (c.new-prefix.result.items ++ (relation_prefix w rel ++ num_bytes c.args.n)) c.put_key_prefix.new.prefix.items vs) c.in-Ok-false.field-0-test c.in-Ok-false.ensures in
     c.new.ensures ∙ unwritten t c.requires.run w rel c.ranges.world.fits c.ranges.rel.fits vs few none
 
 pub returns-in-Ok-clause-tuples : goal.returns-in-Ok-clause-tuples
@@ -28,10 +29,10 @@ returns-in-Ok-clause-tuples g c =
     let rel = c.args.rel in
     let vs = values_behind c.args.slots.now c.args.item c.args.behind.now c.args.n 0 in
     let few : length vs ≤ (sight_of t).keys rel = subst (λ k. length vs ≤ k) c.requires.length (few_asked c.args.slots.now c.args.item c.args.behind.now c.args.n 0) in
-    let put : HasPutValues true (c.new-prefix.result.items ++ (world_prefix w rel ++ num_bytes c.args.n)) c.put_key.new.prefix.items vs =
-    subst (λ b. HasPutValues b (c.new-prefix.result.items ++ (world_prefix w rel ++ num_bytes c.args.n)) c.put_key.new.prefix.items vs) c.in-Ok-true.field-0-test c.in-Ok-true.ensures in
-    let prefix : c.put_key.new.prefix.items ≡ key_prefix c.args.n w rel vs =
-    put.0 ∙ ap (λ (x : List ℕ). (x ++ (world_prefix w rel ++ num_bytes c.args.n)) ++ values_bytes vs) c.new-prefix.ensures.items in
+    let put : HasPutValues true (c.new-prefix.result.items ++ (relation_prefix w rel ++ num_bytes c.args.n)) c.put_key_prefix.new.prefix.items vs =
+    subst (λ b. HasPutValues b (c.new-prefix.result.items ++ (relation_prefix w rel ++ num_bytes c.args.n)) c.put_key_prefix.new.prefix.items vs) c.in-Ok-true.field-0-test c.in-Ok-true.ensures in
+    let prefix : c.put_key_prefix.new.prefix.items ≡ key_prefix c.args.n w rel vs =
+    put.0 ∙ ap (λ (x : List ℕ). (x ++ (relation_prefix w rel ++ num_bytes c.args.n)) ++ values_bytes vs) c.new-prefix.ensures.items in
     c.in-Ok.ensures.tuples
     ∙ ap (λ p. plus_tuples (signed_under t p)) prefix
     ∙ ap (λ (k : ℕ). plus_tuples (signed_under t (key_prefix k w rel vs))) c.requires.length
@@ -46,10 +47,10 @@ returns-in-Ok-clause-reads g c =
     let old = (g.K.Keeper.seen c.args.keeper.now).reads in
     let vs = values_behind c.args.slots.now c.args.item c.args.behind.now c.args.n 0 in
     let few : length vs ≤ (sight_of t).keys rel = subst (λ k. length vs ≤ k) c.requires.length (few_asked c.args.slots.now c.args.item c.args.behind.now c.args.n 0) in
-    let put : HasPutValues true (c.new-prefix.result.items ++ (world_prefix w rel ++ num_bytes c.args.n)) c.put_key.new.prefix.items vs =
-    subst (λ b. HasPutValues b (c.new-prefix.result.items ++ (world_prefix w rel ++ num_bytes c.args.n)) c.put_key.new.prefix.items vs) c.in-Ok-true.field-0-test c.in-Ok-true.ensures in
-    let prefix : c.put_key.new.prefix.items ≡ key_prefix c.args.n w rel vs =
-    put.0 ∙ ap (λ (x : List ℕ). (x ++ (world_prefix w rel ++ num_bytes c.args.n)) ++ values_bytes vs) c.new-prefix.ensures.items in
+    let put : HasPutValues true (c.new-prefix.result.items ++ (relation_prefix w rel ++ num_bytes c.args.n)) c.put_key_prefix.new.prefix.items vs =
+    subst (λ b. HasPutValues b (c.new-prefix.result.items ++ (relation_prefix w rel ++ num_bytes c.args.n)) c.put_key_prefix.new.prefix.items vs) c.in-Ok-true.field-0-test c.in-Ok-true.ensures in
+    let prefix : c.put_key_prefix.new.prefix.items ≡ key_prefix c.args.n w rel vs =
+    put.0 ∙ ap (λ (x : List ℕ). (x ++ (relation_prefix w rel ++ num_bytes c.args.n)) ++ values_bytes vs) c.new-prefix.ensures.items in
     subst (λ r. new ≤ old + (2 * length r + 1))
     (ap (signed_under t) prefix
     ∙ ap (λ (k : ℕ). signed_under t (key_prefix k w rel vs)) c.requires.length

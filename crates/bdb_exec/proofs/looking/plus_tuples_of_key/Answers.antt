@@ -34,7 +34,7 @@ returns-in-Ok-plus_tuples_asked-clause-reads g c =
     let keys = (sight_of t).keys rel in
     let rows = (sight_of t).rows c.args.state.now.world rel in
     let old = (g.K.Keeper.seen c.args.keeper.now).reads in
-    let mid = (g.K.Keeper.seen c.key_length_of.new.keeper).reads in
+    let mid = (g.K.Keeper.seen c.read_key_length.new.keeper).reads in
     let new = (g.K.Keeper.seen c.plus_tuples_asked.new.keeper).reads in
     let own : new ≤ mid + (2 * length (rows_of_key (values_behind slots item behind keys 0) rows) + 1) =
     subst (λ n. new ≤ mid + (2 * length (rows_of_key (values_behind slots item behind n 0) rows) + 1)) c.in-Ok.ensures.length

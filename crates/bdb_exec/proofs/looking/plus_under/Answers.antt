@@ -1,11 +1,11 @@
 use Rattle.std.proofs.Common.{◌≡◌, ◌∙◌, ap, sym, subst, map, length, arith}
 use Rattle.std.specs.List.{AllByRecursion}
+use Rattle.bdb_base.proofs.ListLemmas.{length_map}
 use Rattle.bdb_plan.specs.Running.{plus_tuples}
 use Rattle.bdb_tables.specs.GroupMarks.{numbered}
 use Rattle.bdb_exec.specs.Rows.{HasTuple, signed_at, signed_of}
 use Rattle.bdb_exec.specs.Seen.{signed_under}
 use Rattle.bdb_exec.proofs.WorldLemmas.{typed_under, all_have, shown, told_by_number}
-use Rattle.bdb_exec.proofs.DenyLemmas.{length_map}
 use Rattle.bdb_exec.proofs.looking.plus_under.Goals as goal
 
 pub plus_of-requires-clause-there : goal.plus_of-requires-clause-there

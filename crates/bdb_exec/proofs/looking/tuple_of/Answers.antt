@@ -1,9 +1,10 @@
 use Rattle.std.proofs.Common.{ap, sym, subst}
 use Rattle.std.specs.Prelude.{IfSome, is_some}
 use Rattle.std.specs.Ordering.{nat_cmp}
+use Rattle.bdb_base.proofs.Numbers.{same_number}
 use Rattle.bdb_tables.specs.Codec.{HasRow}
 use Rattle.bdb_tables.specs.InUse.{tuple_codec}
-use Rattle.bdb_exec.proofs.MemoLemmas.{after_insert, nat_tied}
+use Rattle.bdb_exec.proofs.MemoLemmas.{after_insert}
 use Rattle.bdb_exec.proofs.looking.tuple_of.Goals as goal
 
 pub returns-in-Ok-clause-tuple : goal.returns-in-Ok-clause-tuple
@@ -23,7 +24,7 @@ returns-in-Ok-keep_tuple-clause-memo g c =
     let t = (g.K.Keeper.seen c.args.keeper.now).kept in
     let h = c.requires.memo in (
       h.0,
-      after_insert nat_cmp c.args.memo.now.tuples c.keep_tuple.new.tuples c.args.tid c.in-Ok-read_tuple.tuple (λ tid u. HasRow tuple_codec t tid u) (nat_tied c.args.tid) c.in-Ok-read_tuple.ensures.tuple
+      after_insert nat_cmp c.args.memo.now.tuples c.keep_tuple.new.tuples c.args.tid c.in-Ok-read_tuple.tuple (λ tid u. HasRow tuple_codec t tid u) (same_number c.args.tid) c.in-Ok-read_tuple.ensures.tuple
           c.in-Ok-keep_tuple.ensures.kept h.1,
       h.2,
       h.3,

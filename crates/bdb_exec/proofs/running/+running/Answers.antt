@@ -5,11 +5,11 @@ use Rattle.bdb_plan.specs.Running.{rows_from, with_slot}
 use Rattle.bdb_queries.specs.Collected.{with_rows}
 use Rattle.bdb_queries.proofs.CollectedLemmas.{with_rows_full}
 use Rattle.bdb_tables.specs.declared.tab.TabError.TheVariants.{Fault}
+use Rattle.bdb_tables.proofs.Loops.{only_reads_more}
 use Rattle.bdb_exec.specs.Coming.{rows_with, looks_with}
 use Rattle.bdb_exec.specs.LookUps.{looks_from}
 use Rattle.bdb_exec.specs.Memos.{Recalls}
 use Rattle.bdb_exec.specs.Seen.{sight_of}
-use Rattle.bdb_exec.proofs.LookLemmas.{looking_more}
 use Rattle.bdb_exec.proofs.RunLemmas.{rows_after_turn, looks_after_turn, looks_at_end, rows_of_last, looks_of_last, none_left}
 use Rattle.bdb_exec.proofs.running.+running.Goals as goal
 
@@ -34,7 +34,7 @@ run_each-loop-tuple-preserved g t c =
     ∙ ap (λ s. with_rows c.loop-tuple.found (rows_from sight c.args.take.now steps s)) next in
     let reads : new.reads ≤ now.reads + G x = subst (λ s. new.reads ≤ now.reads + looks_from sight steps s) next
     (subst (λ u. new.reads ≤ now.reads + looks_from (sight_of u) steps c.in-Ok-copy_with.next) h.kept c.in-Ok-run.ensures.reads) in
-    looking_more old now new c.in-Ok-run.field-0 Fault h c.in-Ok-run.ensures.looks (record {
+    only_reads_more old now new c.in-Ok-run.field-0 Fault h c.in-Ok-run.ensures.looks (record {
       here = h.read.here;
       rows = rows_after_turn F c.loop-tuple.found c.run-in-Some.new.found (with_rows c.args.found.now (flat_map F c.args.choosing.pool)) left more x c.in-Some.ensures.items rows h.read.rows;
       reads = looks_after_turn G left more x now.reads new.reads (old.reads + sum_by G c.args.choosing.pool) c.in-Some.ensures.items h.read.reads reads;

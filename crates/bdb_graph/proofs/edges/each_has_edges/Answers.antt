@@ -2,9 +2,9 @@ use Rattle.std.proofs.Common.{sym, subst}
 use Rattle.bdb_base.specs.Bases.{is_user}
 use Rattle.bdb_tables.specs.Grammar.{InGrammar}
 use Rattle.bdb_tables.specs.declared.tab.TabError.TheVariants.{Fault}
+use Rattle.bdb_tables.proofs.Loops.{only_reads_more}
 use Rattle.bdb_graph.proofs.EdgeLemmas.{edged_more, not_edged}
 use Rattle.bdb_graph.proofs.FindingLemmas.{world_at}
-use Rattle.bdb_graph.proofs.UpLemmas.{only_reads_more}
 use Rattle.bdb_graph.proofs.edges.each_has_edges.Goals as goal
 
 pub has_edges-requires-clause-grammar : goal.has_edges-requires-clause-grammar

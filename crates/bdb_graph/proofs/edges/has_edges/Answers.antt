@@ -2,8 +2,8 @@ use Rattle.std.proofs.Common.{◌≡◌, ◌+◌, true, false, sym, subst, arith
 use Rattle.bdb_base.specs.Bases.{is_user}
 use Rattle.bdb_tables.specs.Grammar.{InGrammar}
 use Rattle.bdb_tables.specs.declared.tab.TabError.TheVariants.{Fault}
+use Rattle.bdb_tables.proofs.Loops.{only_reads_more}
 use Rattle.bdb_graph.proofs.EdgeLemmas.{edges_all, edges_more, edges_over, not_edge}
-use Rattle.bdb_graph.proofs.UpLemmas.{only_reads_more}
 use Rattle.bdb_graph.proofs.edges.has_edges.Goals as goal
 
 pub has_edge-requires-clause-grammar : goal.has_edge-requires-clause-grammar

@@ -1,6 +1,6 @@
 use Rattle.bdb_tables.specs.declared.tab.TabError.TheVariants.{Fault}
+use Rattle.bdb_tables.proofs.Loops.{only_reads_more}
 use Rattle.bdb_graph.proofs.LeadingLemmas.{led_more, not_led}
-use Rattle.bdb_graph.proofs.UpLemmas.{only_reads_more}
 use Rattle.bdb_graph.proofs.leading.each_is_led.Goals as goal
 
 pub loop-up-preserved : goal.loop-up-preserved

@@ -1,8 +1,9 @@
 use Rattle.std.proofs.Common.{◌≡◌, ◌++◌, [], ◌∷◌, ℕ, sym, subst, rules}
 use Rattle.bdb_tables.specs.declared.tab.TabError.TheVariants.{Fault}
+use Rattle.bdb_tables.proofs.Loops.{only_reads_more}
 use Rattle.bdb_entries.proofs.ReadLemmas.{some_told}
 use Rattle.bdb_graph.specs.Ups.{HasDepth, IsUp}
-use Rattle.bdb_graph.proofs.UpLemmas.{all_get, only_reads_more, ups_more}
+use Rattle.bdb_graph.proofs.UpLemmas.{all_get, ups_more}
 use Rattle.bdb_graph.proofs.ups.raw_ups.Goals as goal
 
 pub up_of-requires-clause-depth : goal.up_of-requires-clause-depth

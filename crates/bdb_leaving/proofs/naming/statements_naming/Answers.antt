@@ -3,14 +3,15 @@ use Rattle.bdb_base.specs.Changes.{statements_naming}
 use Rattle.bdb_tables.specs.Grammar.{InGrammar}
 use Rattle.bdb_val.specs.Reads.{HaveTuples}
 use Rattle.bdb_catalog.specs.Opening.{IsPartOf}
+use Rattle.bdb_catalog.proofs.OpeningLemmas.{some_grammar}
 use Rattle.bdb_stored.specs.Worlds.{TellsStates}
-use Rattle.bdb_stored.proofs.CountingLemmas.{valid_has_tuples, valid_in_grammar}
+use Rattle.bdb_stored.proofs.CountingLemmas.{valid_has_tuples}
 use Rattle.bdb_leaving.proofs.ReadsLemmas.{reads_together}
 use Rattle.bdb_leaving.proofs.naming.statements_naming.Goals as goal
 
 pub read_naming-requires-clause-grammar : goal.read_naming-requires-clause-grammar
 read_naming-requires-clause-grammar g c =
-    subst InGrammar (sym c.in-Ok.ensures.read.kept) (valid_in_grammar (g.K.Keeper.seen c.args.keeper.now).kept c.requires.base)
+    subst InGrammar (sym c.in-Ok.ensures.read.kept) (some_grammar (g.K.Keeper.seen c.args.keeper.now).kept c.requires.base)
 
 pub read_naming-requires-clause-tuples : goal.read_naming-requires-clause-tuples
 read_naming-requires-clause-tuples g c =

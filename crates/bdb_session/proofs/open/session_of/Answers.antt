@@ -4,11 +4,11 @@ use Rattle.bdb_catalog.specs.Opening.{IsPartOf}
 use Rattle.bdb_keep.specs.Tables.{Tables}
 use Rattle.bdb_stored.specs.Counting.{TellsCounts}
 use Rattle.bdb_tables.specs.declared.tab.TabError.TheVariants.{Fault, Memory}
-use Rattle.bdb_tables.proofs.Loops.{counts_then, goes_then, steps_err, steps_ok}
+use Rattle.bdb_tables.proofs.Loops.{counts_then, goes_then, steps_err, steps_ok, err_steps}
 use Rattle.bdb_worlds.proofs.StepsLemmas.{steps_undone}
 use Rattle.bdb_session.specs.Known.{Known}
 use Rattle.bdb_session.specs.Opening.{KnowsStored}
-use Rattle.bdb_session.proofs.OpenLemmas.{first_err, knows_parts}
+use Rattle.bdb_session.proofs.OpenLemmas.{knows_parts}
 use Rattle.bdb_session.proofs.open.session_of.Goals as goal
 
 pub read_relations-requires : goal.read_relations-requires
@@ -27,7 +27,7 @@ returns-in-Ok-session_over-clause-knows g c =
     (knows_parts t c.in-Ok.users c.in-Ok-read_relations.rels c.in-Ok-counts_of.counts c.in-Ok.ensures.users rels counts)
 
 pub returns-in-Err-clause-steps : goal.returns-in-Err-clause-steps
-returns-in-Err-clause-steps g c = first_err _ _ _ _ c.in-Err.ensures.steps
+returns-in-Err-clause-steps g c = err_steps _ _ _ _ c.in-Err.ensures.steps
 
 pub returns-in-Err-read_relations-clause-writes : goal.returns-in-Err-read_relations-clause-writes
 returns-in-Err-read_relations-clause-writes g c = c.in-Err-read_relations.ensures.writes ∙ c.in-Ok.ensures.writes

@@ -1,9 +1,9 @@
-use Rattle.bdb_tables.proofs.Loops.{counts_then, goes_then, steps_err, steps_ok}
-use Rattle.bdb_session.proofs.OpenLemmas.{agrees_written, first_err}
+use Rattle.bdb_tables.proofs.Loops.{counts_then, goes_then, steps_err, steps_ok, err_steps}
+use Rattle.bdb_session.proofs.OpenLemmas.{agrees_written}
 use Rattle.bdb_session.proofs.open.written_session.Goals as goal
 
 pub returns-in-Err-clause-steps : goal.returns-in-Err-clause-steps
-returns-in-Err-clause-steps g c = first_err _ _ _ _ c.in-Err.ensures.steps
+returns-in-Err-clause-steps g c = err_steps _ _ _ _ c.in-Err.ensures.steps
 
 pub session_of-requires : goal.session_of-requires
 session_of-requires g c = record { base = record { base = c.args.base.now; stores = c.in-Ok.ensures.stored } }

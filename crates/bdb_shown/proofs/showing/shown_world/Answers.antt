@@ -5,7 +5,7 @@ use Rattle.bdb_key.specs.Grammar.{IsNum}
 use Rattle.bdb_shown.specs.Rows.{AreRawRows}
 use Rattle.bdb_shown.proofs.WorldLemmas.{reads_world, shows_world}
 use Rattle.bdb_val.specs.Reads.{HaveTuples, world_prefix}
-use Rattle.bdb_worlds.specs.Bounds.{RisesWithin}
+use Rattle.bdb_worlds.specs.Bounds.{EndsWithin}
 use Rattle.bdb_worlds.specs.Holding.{HoldSome}
 use Rattle.bdb_shown.proofs.showing.shown_world.Goals as goal
 
@@ -36,6 +36,6 @@ returns-in-Ok-ordered_reply-clause-reads g c =
     let found : FindsState old.kept path c.in-Ok.found = subst (λ p. FindsState old.kept p c.in-Ok.found) c.as_slice.ensures.users c.in-Ok.ensures.found in
     let raw : AreRawRows old.kept (world_prefix c.in-Ok.found.0) c.read_rows.new.rows = subst (λ t. AreRawRows t (world_prefix c.in-Ok.found.0) c.read_rows.new.rows) c.in-Ok.ensures.kept c.in-Ok-read_rows.ensures.rows in
     let sized : IsNum c.in-Ok.found.0 = search rules in
-    let state : RisesWithin (length path + 1) old.reads mid.reads = subst (λ p. RisesWithin (length p + 1) old.reads mid.reads) c.as_slice.ensures.users c.in-Ok.ensures.reads in
+    let state : EndsWithin (length path + 1) old.reads mid.reads = subst (λ p. EndsWithin (length p + 1) old.reads mid.reads) c.as_slice.ensures.users c.in-Ok.ensures.reads in
     reads_world old.kept path c.in-Ok.found.0 c.in-Ok.found.1 c.args.catalog.now c.read_rows.new.rows c.in-Ok-ordered_reply.text (path_grammar old.kept path c.requires.base) sized found raw c.in-Ok-ordered_reply.ensures
     old.reads mid.reads new.reads c.in-Ok-read_rows.ensures.read.counts.reads state c.in-Ok-read_rows.ensures.reads

@@ -1,6 +1,6 @@
 use Rattle.std.proofs.Common.{rules, arith, ◌≡◌, false, IsTrue}
 use Rattle.sqlite.specs.Held.{state}
-use Rattle.bdb_keep.specs.Held.{Held}
+use Rattle.bdb_memory.specs.Held.{Held}
 use Rattle.bdb_sql.proofs.OrderLemmas.{on_ok, ties_if, whole_if}
 use Rattle.bdb_sql.proofs.load.load.Goals as goal
 

@@ -8,7 +8,7 @@ use Rattle.sqlite.specs.Given.{IsPlain}
 use Rattle.sqlite.specs.Held.{state}
 use Rattle.sqlite.proofs.StateLemmas.{survives_then}
 use Rattle.sqlite.proofs.Callers.{begun_plain, unchanged_then}
-use Rattle.bdb_keep.specs.Held.{Held}
+use Rattle.bdb_memory.specs.Held.{Held}
 use Rattle.bdb_keep.specs.Tables.{LieInTables}
 use Rattle.bdb_sql.specs.Rows.{AreRowsOf}
 use Rattle.bdb_keep.proofs.TableLemmas.{none_lie}

@@ -1,10 +1,7 @@
-use Rattle.std.proofs.Common.{◌≡◌, ◌∙◌, ℕ, ◌<◌, ◌-◌, ◌^◌, List, [], ap, sym, length, subst, rules, arith}
-use Rattle.bdb_keep.specs.Tables.{Tables}
-use Rattle.bdb_tables.specs.InUse.{tuple_codec}
-use Rattle.bdb_tables.specs.Spans.{AreUnder}
+use Rattle.std.proofs.Common.{◌≡◌, ◌∙◌, ℕ, ◌<◌, ◌-◌, ◌^◌, List, ap, sym, length, subst, rules, arith}
 use Rattle.bdb_val.specs.Reads.{HaveTuples}
-use Rattle.bdb_stored.specs.Counting.{CountsRows, TellsCounts}
-use Rattle.bdb_stored.proofs.CountingLemmas.{AreRead, sizes_told, worlds_few, tuples_few, statements_few, rows_few, valid_has_tuples}
+use Rattle.bdb_stored.specs.Counting.{TellsCounts}
+use Rattle.bdb_stored.proofs.CountingLemmas.{sizes_told, worlds_few, tuples_few, statements_few, rows_few, valid_has_tuples, read_in_turn}
 use Rattle.bdb_stored.proofs.counting.counts_of.Goals as goal
 
 pub count_rows-requires-clause-tuples : goal.count_rows-requires-clause-tuples
@@ -16,13 +13,8 @@ overflow_cast-result g c =
     let t = (g.K.Keeper.seen c.args.keeper.now).kept in
     let es = c.in-Ok.worlds.items in
     let ds = c.in-Ok-rows_under.tuples.items in
-    let two = c.in-Ok-rows_under.ensures.read.kept ∙ c.in-Ok.ensures.read.kept in
-    let r : AreRead t es ds c.in-Ok-count_rows.stmts c.in-Ok-count_rows.rows = record {
-      worlds = c.in-Ok.ensures.rows;
-      tuples = subst (λ (u : Tables). AreUnder tuple_codec u [] ds) c.in-Ok.ensures.read.kept c.in-Ok-rows_under.ensures.rows;
-      counts = subst (λ xs. CountsRows t xs c.in-Ok-count_rows.stmts c.in-Ok-count_rows.rows) c.deref.ensures.value
-          (subst (λ (u : Tables). CountsRows u c.deref.result.now c.in-Ok-count_rows.stmts c.in-Ok-count_rows.rows) two c.in-Ok-count_rows.ensures.counts);
-    } in
+    let r = read_in_turn t _ _ es c.deref.result.now ds c.in-Ok-count_rows.stmts c.in-Ok-count_rows.rows c.in-Ok.ensures.read.kept c.in-Ok-rows_under.ensures.read.kept
+    c.deref.ensures.value c.in-Ok.ensures.rows c.in-Ok-rows_under.ensures.rows c.in-Ok-count_rows.ensures.counts in
     let few = worlds_few t es ds c.in-Ok-count_rows.stmts c.in-Ok-count_rows.rows r c.requires.base in omega (arith, c.len.ensures)
 
 pub overflow_cast-result-in-Ok-count_rows : goal.overflow_cast-result-in-Ok-count_rows
@@ -30,13 +22,8 @@ overflow_cast-result-in-Ok-count_rows g c =
     let t = (g.K.Keeper.seen c.args.keeper.now).kept in
     let es = c.in-Ok.worlds.items in
     let ds = c.in-Ok-rows_under.tuples.items in
-    let two = c.in-Ok-rows_under.ensures.read.kept ∙ c.in-Ok.ensures.read.kept in
-    let r : AreRead t es ds c.in-Ok-count_rows.stmts c.in-Ok-count_rows.rows = record {
-      worlds = c.in-Ok.ensures.rows;
-      tuples = subst (λ (u : Tables). AreUnder tuple_codec u [] ds) c.in-Ok.ensures.read.kept c.in-Ok-rows_under.ensures.rows;
-      counts = subst (λ xs. CountsRows t xs c.in-Ok-count_rows.stmts c.in-Ok-count_rows.rows) c.deref.ensures.value
-          (subst (λ (u : Tables). CountsRows u c.deref.result.now c.in-Ok-count_rows.stmts c.in-Ok-count_rows.rows) two c.in-Ok-count_rows.ensures.counts);
-    } in
+    let r = read_in_turn t _ _ es c.deref.result.now ds c.in-Ok-count_rows.stmts c.in-Ok-count_rows.rows c.in-Ok.ensures.read.kept c.in-Ok-rows_under.ensures.read.kept
+    c.deref.ensures.value c.in-Ok.ensures.rows c.in-Ok-rows_under.ensures.rows c.in-Ok-count_rows.ensures.counts in
     let few = tuples_few t es ds c.in-Ok-count_rows.stmts c.in-Ok-count_rows.rows r c.requires.base in omega (arith, c.len-in-Ok-count_rows.ensures)
 
 pub overflow_cast-result-in-Ok-count_rows-2 : goal.overflow_cast-result-in-Ok-count_rows-2
@@ -44,13 +31,8 @@ overflow_cast-result-in-Ok-count_rows-2 g c =
     let t = (g.K.Keeper.seen c.args.keeper.now).kept in
     let es = c.in-Ok.worlds.items in
     let ds = c.in-Ok-rows_under.tuples.items in
-    let two = c.in-Ok-rows_under.ensures.read.kept ∙ c.in-Ok.ensures.read.kept in
-    let r : AreRead t es ds c.in-Ok-count_rows.stmts c.in-Ok-count_rows.rows = record {
-      worlds = c.in-Ok.ensures.rows;
-      tuples = subst (λ (u : Tables). AreUnder tuple_codec u [] ds) c.in-Ok.ensures.read.kept c.in-Ok-rows_under.ensures.rows;
-      counts = subst (λ xs. CountsRows t xs c.in-Ok-count_rows.stmts c.in-Ok-count_rows.rows) c.deref.ensures.value
-          (subst (λ (u : Tables). CountsRows u c.deref.result.now c.in-Ok-count_rows.stmts c.in-Ok-count_rows.rows) two c.in-Ok-count_rows.ensures.counts);
-    } in
+    let r = read_in_turn t _ _ es c.deref.result.now ds c.in-Ok-count_rows.stmts c.in-Ok-count_rows.rows c.in-Ok.ensures.read.kept c.in-Ok-rows_under.ensures.read.kept
+    c.deref.ensures.value c.in-Ok.ensures.rows c.in-Ok-rows_under.ensures.rows c.in-Ok-count_rows.ensures.counts in
     let few = statements_few t es ds c.in-Ok-count_rows.stmts c.in-Ok-count_rows.rows r c.requires.base in omega arith
 
 pub overflow_cast-result-in-Ok-count_rows-3 : goal.overflow_cast-result-in-Ok-count_rows-3
@@ -58,13 +40,8 @@ overflow_cast-result-in-Ok-count_rows-3 g c =
     let t = (g.K.Keeper.seen c.args.keeper.now).kept in
     let es = c.in-Ok.worlds.items in
     let ds = c.in-Ok-rows_under.tuples.items in
-    let two = c.in-Ok-rows_under.ensures.read.kept ∙ c.in-Ok.ensures.read.kept in
-    let r : AreRead t es ds c.in-Ok-count_rows.stmts c.in-Ok-count_rows.rows = record {
-      worlds = c.in-Ok.ensures.rows;
-      tuples = subst (λ (u : Tables). AreUnder tuple_codec u [] ds) c.in-Ok.ensures.read.kept c.in-Ok-rows_under.ensures.rows;
-      counts = subst (λ xs. CountsRows t xs c.in-Ok-count_rows.stmts c.in-Ok-count_rows.rows) c.deref.ensures.value
-          (subst (λ (u : Tables). CountsRows u c.deref.result.now c.in-Ok-count_rows.stmts c.in-Ok-count_rows.rows) two c.in-Ok-count_rows.ensures.counts);
-    } in
+    let r = read_in_turn t _ _ es c.deref.result.now ds c.in-Ok-count_rows.stmts c.in-Ok-count_rows.rows c.in-Ok.ensures.read.kept c.in-Ok-rows_under.ensures.read.kept
+    c.deref.ensures.value c.in-Ok.ensures.rows c.in-Ok-rows_under.ensures.rows c.in-Ok-count_rows.ensures.counts in
     let few = rows_few t es ds c.in-Ok-count_rows.stmts c.in-Ok-count_rows.rows r c.requires.base in omega arith
 
 pub returns-in-Ok-count_rows-clause-counts : goal.returns-in-Ok-count_rows-clause-counts
@@ -72,13 +49,8 @@ returns-in-Ok-count_rows-clause-counts g c =
     let t = (g.K.Keeper.seen c.args.keeper.now).kept in
     let es = c.in-Ok.worlds.items in
     let ds = c.in-Ok-rows_under.tuples.items in
-    let two = c.in-Ok-rows_under.ensures.read.kept ∙ c.in-Ok.ensures.read.kept in
-    let r : AreRead t es ds c.in-Ok-count_rows.stmts c.in-Ok-count_rows.rows = record {
-      worlds = c.in-Ok.ensures.rows;
-      tuples = subst (λ (u : Tables). AreUnder tuple_codec u [] ds) c.in-Ok.ensures.read.kept c.in-Ok-rows_under.ensures.rows;
-      counts = subst (λ xs. CountsRows t xs c.in-Ok-count_rows.stmts c.in-Ok-count_rows.rows) c.deref.ensures.value
-          (subst (λ (u : Tables). CountsRows u c.deref.result.now c.in-Ok-count_rows.stmts c.in-Ok-count_rows.rows) two c.in-Ok-count_rows.ensures.counts);
-    } in
+    let r = read_in_turn t _ _ es c.deref.result.now ds c.in-Ok-count_rows.stmts c.in-Ok-count_rows.rows c.in-Ok.ensures.read.kept c.in-Ok-rows_under.ensures.read.kept
+    c.deref.ensures.value c.in-Ok.ensures.rows c.in-Ok-rows_under.ensures.rows c.in-Ok-count_rows.ensures.counts in
     let a : c.len.result ≡ length es = search rules in
     let d : c.len-in-Ok-count_rows.result ≡ length ds = search rules in
     subst (λ n. TellsCounts t (record { worlds = n; tuples = c.len-in-Ok-count_rows.result; stmts = c.in-Ok-count_rows.stmts; rows = c.in-Ok-count_rows.rows })) (sym a)
@@ -90,13 +62,8 @@ returns-in-Ok-count_rows-clause-reads g c =
     let t = (g.K.Keeper.seen c.args.keeper.now).kept in
     let es = c.in-Ok.worlds.items in
     let ds = c.in-Ok-rows_under.tuples.items in
-    let two = c.in-Ok-rows_under.ensures.read.kept ∙ c.in-Ok.ensures.read.kept in
-    let r : AreRead t es ds c.in-Ok-count_rows.stmts c.in-Ok-count_rows.rows = record {
-      worlds = c.in-Ok.ensures.rows;
-      tuples = subst (λ (u : Tables). AreUnder tuple_codec u [] ds) c.in-Ok.ensures.read.kept c.in-Ok-rows_under.ensures.rows;
-      counts = subst (λ xs. CountsRows t xs c.in-Ok-count_rows.stmts c.in-Ok-count_rows.rows) c.deref.ensures.value
-          (subst (λ (u : Tables). CountsRows u c.deref.result.now c.in-Ok-count_rows.stmts c.in-Ok-count_rows.rows) two c.in-Ok-count_rows.ensures.counts);
-    } in
+    let r = read_in_turn t _ _ es c.deref.result.now ds c.in-Ok-count_rows.stmts c.in-Ok-count_rows.rows c.in-Ok.ensures.read.kept c.in-Ok-rows_under.ensures.read.kept
+    c.deref.ensures.value c.in-Ok.ensures.rows c.in-Ok-rows_under.ensures.rows c.in-Ok-count_rows.ensures.counts in
     let few = rows_few t es ds c.in-Ok-count_rows.stmts c.in-Ok-count_rows.rows r c.requires.base in
     let a : c.len.result ≡ length es = search rules in
     let d : c.len-in-Ok-count_rows.result ≡ length ds = search rules in

@@ -1,8 +1,8 @@
 use Rattle.std.proofs.Common.{Some, None, refl}
 use Rattle.bdb_tables.specs.InUse.{edge_codec}
 use Rattle.bdb_tables.proofs.Numbered.{at_old}
+use Rattle.bdb_tables.proofs.Held.{edges_fit}
 use Rattle.bdb_stored.proofs.LinkLemmas.{told_edge, told_no_edge}
-use Rattle.bdb_stored.proofs.ReadLemmas.{edges_fit}
 use Rattle.bdb_stored.proofs.edges.edge_for.Goals as goal
 
 pub get-requires-clause-grammar : goal.get-requires-clause-grammar

@@ -1,5 +1,5 @@
+use Rattle.bdb_tables.proofs.Held.{links_fit}
 use Rattle.bdb_stored.proofs.LinkLemmas.{told_link}
-use Rattle.bdb_stored.proofs.ReadLemmas.{links_fit}
 use Rattle.bdb_stored.proofs.links.with_link.Goals as goal
 
 pub get-requires-clause-grammar : goal.get-requires-clause-grammar

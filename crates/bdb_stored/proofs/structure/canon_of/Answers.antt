@@ -7,9 +7,10 @@ use Rattle.bdb_tables.specs.Grammar.{InGrammar}
 use Rattle.bdb_val.specs.Reads.{HaveTuples}
 use Rattle.bdb_stored.specs.Structure.{worlds_with_links}
 use Rattle.bdb_catalog.specs.Opening.{IsPartOf}
+use Rattle.bdb_catalog.proofs.OpeningLemmas.{some_grammar}
 use Rattle.bdb_stored.specs.Worlds.{TellsStates}
 use Rattle.bdb_stored.specs.declared.named.NamedWorld.{NamedWorld}
-use Rattle.bdb_stored.proofs.CountingLemmas.{valid_has_tuples, valid_in_grammar}
+use Rattle.bdb_stored.proofs.CountingLemmas.{valid_has_tuples}
 use Rattle.bdb_stored.proofs.StructureLemmas.{linked_as_many, read_in_all, states_few, tuples_in_set, users_at_most}
 use Rattle.bdb_stored.proofs.structure.canon_of.Goals as goal
 
@@ -36,7 +37,7 @@ edges_of-requires-clause-few g c =
 pub rows_of-requires-clause-grammar : goal.rows_of-requires-clause-grammar
 rows_of-requires-clause-grammar g c =
     let back = c.in-Ok-edges_of.ensures.reading.kept ∙ c.in-Ok-worlds_with_links.ensures.reading.kept ∙ c.in-Ok-tuples_in_order.ensures.read.kept ∙ c.in-Ok-worlds_in_order.ensures.read.kept ∙ c.in-Ok.ensures.read.kept in
-    subst InGrammar (sym back) (valid_in_grammar (g.K.Keeper.seen c.args.keeper.now).kept c.requires.base)
+    subst InGrammar (sym back) (some_grammar (g.K.Keeper.seen c.args.keeper.now).kept c.requires.base)
 
 pub rows_of-requires-clause-stored : goal.rows_of-requires-clause-stored
 rows_of-requires-clause-stored g c =

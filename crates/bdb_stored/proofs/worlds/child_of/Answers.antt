@@ -2,8 +2,8 @@ use Rattle.std.proofs.Common.{◌≡◌, ◌+◌, length, Some, None, refl, sym,
 use Rattle.bdb_tables.specs.Grammar.{InGrammar}
 use Rattle.bdb_tables.specs.InUse.{depth_codec, edge_codec}
 use Rattle.bdb_tables.proofs.Numbered.{at_old}
+use Rattle.bdb_tables.proofs.Held.{depths_fit, edges_fit}
 use Rattle.bdb_stored.proofs.ChildLemmas.{told_child, told_no_deeper, told_no_depth, told_no_edge, told_no_path}
-use Rattle.bdb_stored.proofs.ReadLemmas.{depths_fit, edges_fit}
 use Rattle.bdb_stored.proofs.worlds.child_of.Goals as goal
 
 pub get-requires-clause-grammar : goal.get-requires-clause-grammar

@@ -1,6 +1,6 @@
 use Rattle.std.proofs.Common.{◌∙◌, ◌<◌, List, ap, get_or, length, refl, subst}
 use Rattle.bdb_base.specs.declared.kinds.RelDef.{RelDef}
-use Rattle.bdb_worlds.proofs.StepsLemmas.{falls_then, goes_then}
+use Rattle.bdb_tables.proofs.Loops.{goes_then, counts_then}
 use Rattle.bdb_stored.specs.Writing.{with_relations}
 use Rattle.bdb_stored.proofs.WritingLemmas.{relation_added, relation_may}
 use Rattle.bdb_stored.proofs.writing.write_relations.Goals as goal
@@ -24,6 +24,6 @@ loop-at-preserved g c =
     record {
       stored = relation_added c.args.catalog.now c.requires.catalog k def (subst (λ (xs : List RelDef). k < length xs) same c.loop-at-test.true) (c.index-rels-at.is ∙ ap (λ (xs : List RelDef). get_or xs k def) same)
           (g.K.Keeper.seen c.loop-at.keeper).kept (g.K.Keeper.seen c.add_relation.new.keeper).kept k refl c.loop-at.invariant.stored c.in-Ok.ensures.added;
-      counts = falls_then _ _ _ c.loop-at.invariant.counts c.in-Ok.ensures.write.counts;
+      counts = counts_then _ _ _ c.loop-at.invariant.counts c.in-Ok.ensures.write.counts;
       goes_on = goes_then _ _ _ c.loop-at.invariant.goes_on c.in-Ok.ensures.write.steps.ok;
     }

@@ -1,6 +1,6 @@
 use Rattle.std.proofs.Common.{◌∙◌, ◌<◌, List, ap, get_or, length, subst}
 use Rattle.bdb_base.specs.declared.kinds.Stmt.{Stmt}
-use Rattle.bdb_worlds.proofs.StepsLemmas.{falls_then, goes_then}
+use Rattle.bdb_tables.proofs.Loops.{goes_then, counts_then}
 use Rattle.bdb_stored.specs.Writing.{with_front}
 use Rattle.bdb_stored.proofs.FrontLemmas.{has_followed, may_follow}
 use Rattle.bdb_stored.proofs.writing.write_statements.Goals as goal
@@ -24,6 +24,6 @@ loop-stmt-preserved g c =
     record {
       stored = has_followed c.args.base.now c.stmts-stmt-items.ensures.valid k x (subst (λ (xs : List Stmt). k < length xs) same c.loop-stmt-test.true) (c.stmt-item.is ∙ ap (λ (xs : List Stmt). get_or xs k x) same)
           (g.K.Keeper.seen c.loop-stmt.keeper).kept (g.K.Keeper.seen c.add_next.new.keeper).kept c.loop-stmt.counts c.add_next.new.counts c.loop-stmt.invariant.stored c.in-Ok.ensures.added;
-      counts = falls_then _ _ _ c.loop-stmt.invariant.counts c.in-Ok.ensures.counts;
+      counts = counts_then _ _ _ c.loop-stmt.invariant.counts c.in-Ok.ensures.counts;
       goes_on = goes_then _ _ _ c.loop-stmt.invariant.goes_on c.in-Ok.ensures.steps.ok;
     }

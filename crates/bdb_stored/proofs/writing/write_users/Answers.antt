@@ -1,6 +1,6 @@
 use Rattle.std.proofs.Common.{◌∙◌, ◌<◌, List, ap, get_or, length, refl, subst}
 use Rattle.bdb_base.specs.declared.kinds.UserSlot.{UserSlot}
-use Rattle.bdb_worlds.proofs.StepsLemmas.{falls_then, goes_then}
+use Rattle.bdb_tables.proofs.Loops.{goes_then, counts_then}
 use Rattle.bdb_stored.specs.Writing.{with_users}
 use Rattle.bdb_stored.proofs.WritingLemmas.{place_added, place_may}
 use Rattle.bdb_stored.proofs.writing.write_users.Goals as goal
@@ -24,6 +24,6 @@ loop-at-preserved g c =
     record {
       stored = place_added c.args.catalog.now c.requires.catalog k slot (subst (λ (xs : List UserSlot). k < length xs) same c.loop-at-test.true) (c.index-users-at.is ∙ ap (λ (xs : List UserSlot). get_or xs k slot) same)
           (g.K.Keeper.seen c.loop-at.keeper).kept (g.K.Keeper.seen c.write_place.new.keeper).kept _ refl c.loop-at.invariant.stored c.in-Ok.ensures.added;
-      counts = falls_then _ _ _ c.loop-at.invariant.counts c.in-Ok.ensures.counts;
+      counts = counts_then _ _ _ c.loop-at.invariant.counts c.in-Ok.ensures.counts;
       goes_on = goes_then _ _ _ c.loop-at.invariant.goes_on c.in-Ok.ensures.steps.ok;
     }

@@ -11,10 +11,19 @@ returns-in-Some-clause-by_count g c = λ _. each_by_count _ _ _ _ _ _ _ c.run_sc
 pub returns-in-Some-clause-finishes : goal.returns-in-Some-clause-finishes
 returns-in-Some-clause-finishes g c = λ text asked stand told short source sink keeper.
     let h = c.run_script.ensures in
-    finishes_by _ _ text h.statuses.0 h.statuses.1 (λ e. source (h.source e)) (λ e. sink (h.sink e)) (λ e. keeper (h.keeper e)) (λ e. h.refused e stand.base stand.stand) h.many told short
+    finishes_by _ _ text h.statuses h.worded (λ e. source (h.source e)) (λ e. sink (h.sink e)) (λ e. keeper (h.keeper e)) (λ e. h.refused e stand.base stand.stand) h.many told short
 
 pub returns-in-Some-clause-checked : goal.returns-in-Some-clause-checked
 returns-in-Some-clause-checked g c = λ asked. absurd (asked (runs_alone c.args.words.now _ c.in-Some.ensures))
+
+pub returns-in-Some-clause-checked_source : goal.returns-in-Some-clause-checked_source
+returns-in-Some-clause-checked_source g c = λ asked. absurd (asked (runs_alone c.args.words.now _ c.in-Some.ensures))
+
+pub returns-in-Some-clause-checked_keeper : goal.returns-in-Some-clause-checked_keeper
+returns-in-Some-clause-checked_keeper g c = λ asked. absurd (asked (runs_alone c.args.words.now _ c.in-Some.ensures))
+
+pub returns-in-Some-clause-checked_still : goal.returns-in-Some-clause-checked_still
+returns-in-Some-clause-checked_still g c = λ asked. absurd (asked (runs_alone c.args.words.now _ c.in-Some.ensures))
 
 pub returns-in-Some-clause-headline_many : goal.returns-in-Some-clause-headline_many
 returns-in-Some-clause-headline_many g c = λ asked. absurd (asked (many_alone c.args.words.now _ c.in-Some.ensures))
@@ -28,8 +37,14 @@ returns-in-Some-clause-refused_many g c = λ asked. absurd (asked (many_alone c.
 pub returns-in-Some-clause-none_many : goal.returns-in-Some-clause-none_many
 returns-in-Some-clause-none_many g c = λ asked. absurd (asked (many_alone c.args.words.now _ c.in-Some.ensures))
 
-pub returns-in-Some-clause-silent_many : goal.returns-in-Some-clause-silent_many
-returns-in-Some-clause-silent_many g c = λ asked. absurd (asked (many_alone c.args.words.now _ c.in-Some.ensures))
+pub returns-in-Some-clause-silent_source_many : goal.returns-in-Some-clause-silent_source_many
+returns-in-Some-clause-silent_source_many g c = λ asked. absurd (asked (many_alone c.args.words.now _ c.in-Some.ensures))
+
+pub returns-in-Some-clause-silent_sink_many : goal.returns-in-Some-clause-silent_sink_many
+returns-in-Some-clause-silent_sink_many g c = λ asked. absurd (asked (many_alone c.args.words.now _ c.in-Some.ensures))
+
+pub returns-in-Some-clause-silent_keeper_many : goal.returns-in-Some-clause-silent_keeper_many
+returns-in-Some-clause-silent_keeper_many g c = λ asked. absurd (asked (many_alone c.args.words.now _ c.in-Some.ensures))
 
 pub returns-in-Some-clause-still_many : goal.returns-in-Some-clause-still_many
 returns-in-Some-clause-still_many g c = λ asked. absurd (asked (many_alone c.args.words.now _ c.in-Some.ensures))
@@ -46,13 +61,22 @@ returns-in-Some-clause-finishes_many g c = λ text asked. absurd (asked (many_al
 pub returns-in-Some-many_files-clause-checked : goal.returns-in-Some-many_files-clause-checked
 returns-in-Some-many_files-clause-checked g c = λ asked. absurd (asked (streams_alone c.args.words.now _ c.in-Some-many_files.ensures))
 
+pub returns-in-Some-many_files-clause-checked_source : goal.returns-in-Some-many_files-clause-checked_source
+returns-in-Some-many_files-clause-checked_source g c = λ asked. absurd (asked (streams_alone c.args.words.now _ c.in-Some-many_files.ensures))
+
+pub returns-in-Some-many_files-clause-checked_keeper : goal.returns-in-Some-many_files-clause-checked_keeper
+returns-in-Some-many_files-clause-checked_keeper g c = λ asked. absurd (asked (streams_alone c.args.words.now _ c.in-Some-many_files.ensures))
+
+pub returns-in-Some-many_files-clause-checked_still : goal.returns-in-Some-many_files-clause-checked_still
+returns-in-Some-many_files-clause-checked_still g c = λ asked. absurd (asked (streams_alone c.args.words.now _ c.in-Some-many_files.ensures))
+
 pub returns-in-Some-many_files-clause-by_commits : goal.returns-in-Some-many_files-clause-by_commits
 returns-in-Some-many_files-clause-by_commits g c = λ _. each_by_commits _ _ _ _ _ _ _ c.run_stream.ensures.ran
 
 pub returns-in-Some-many_files-clause-finishes_many : goal.returns-in-Some-many_files-clause-finishes_many
 returns-in-Some-many_files-clause-finishes_many g c = λ text asked stand told short source sink keeper.
     let h = c.run_stream.ensures in
-    finishes_by _ _ text h.statuses.0 h.statuses.1 (λ e. source (h.source e)) (λ e. sink (h.sink e)) (λ e. keeper (h.keeper e)) (λ e. h.refused e stand.base stand.stand) h.many told short
+    finishes_by _ _ text h.statuses h.worded (λ e. source (h.source e)) (λ e. sink (h.sink e)) (λ e. keeper (h.keeper e)) (λ e. h.refused e stand.base stand.stand) h.many told short
 
 pub returns-in-Some-clause-errors_many : goal.returns-in-Some-clause-errors_many
 returns-in-Some-clause-errors_many g c = λ asked. absurd (asked (many_alone c.args.words.now _ c.in-Some.ensures))

@@ -1,6 +1,6 @@
 use Rattle.std.proofs.Common.{Err, ap, inl, inr, refl}
 use Rattle.bdb_top.proofs.EmptyLemmas.{agreed_stand}
-use Rattle.bdb_top.proofs.RanLemmas.{but_for_large, each_closed, each_refused, each_run, each_status, many_if, not_seven, of_large, run_status, taken_by}
+use Rattle.bdb_top.proofs.RanLemmas.{but_for_large, each_closed, each_refused, each_run, each_status, low_is_ok, many_if, not_seven, of_large, run_status}
 use Rattle.bdb_top.proofs.top.run_script.Goals as goal
 
 pub returns-in-Err-Damaged-clause-ran : goal.returns-in-Err-Damaged-clause-ran
@@ -30,14 +30,26 @@ returns-clause-ran g c =
 pub returns-clause-refused : goal.returns-clause-refused
 returns-clause-refused g c = λ e. absurd (not_seven _ c.carry_out_script.result c.status_of.ensures e)
 
-pub returns-clause-silent : goal.returns-clause-silent
-returns-clause-silent g c = λ none. absurd (none c.in-Ok.ensures.stand.base c.in-Ok.ensures.stand.stand)
+pub returns-clause-silent_source : goal.returns-clause-silent_source
+returns-clause-silent_source g c = λ none. absurd (none c.in-Ok.ensures.stand.base c.in-Ok.ensures.stand.stand)
+
+pub returns-clause-silent_sink : goal.returns-clause-silent_sink
+returns-clause-silent_sink g c = λ none. absurd (none c.in-Ok.ensures.stand.base c.in-Ok.ensures.stand.stand)
+
+pub returns-clause-silent_keeper : goal.returns-clause-silent_keeper
+returns-clause-silent_keeper g c = λ none. absurd (none c.in-Ok.ensures.stand.base c.in-Ok.ensures.stand.stand)
 
 pub returns-clause-statuses : goal.returns-clause-statuses
-returns-clause-statuses g c = run_status _ c.carry_out_script.result c.status_of.ensures
+returns-clause-statuses g c = (run_status _ c.carry_out_script.result c.status_of.ensures).0
 
-pub returns-clause-taken : goal.returns-clause-taken
-returns-clause-taken g c = taken_by _ c.carry_out_script.result _ _ c.status_of.ensures c.carry_out_script.ensures.end c.carry_out_script.ensures.short
+pub returns-clause-worded : goal.returns-clause-worded
+returns-clause-worded g c = (run_status _ c.carry_out_script.result c.status_of.ensures).1
+
+pub returns-clause-ended : goal.returns-clause-ended
+returns-clause-ended g c = λ low. low_is_ok _ c.carry_out_script.result c.status_of.ensures low c.carry_out_script.ensures.end
+
+pub returns-clause-short : goal.returns-clause-short
+returns-clause-short g c = λ low. low_is_ok _ c.carry_out_script.result c.status_of.ensures low c.carry_out_script.ensures.short
 
 pub returns-clause-many : goal.returns-clause-many
 returns-clause-many g c = many_if _ c.carry_out_script.result _ c.status_of.ensures c.carry_out_script.ensures.many
@@ -48,17 +60,17 @@ returns-clause-within g c = but_for_large _ c.carry_out_script.result c.status_o
 pub returns-clause-one_more : goal.returns-clause-one_more
 returns-clause-one_more g c = of_large _ c.carry_out_script.result c.status_of.ensures c.carry_out_script.ensures.one_more
 
-pub returns-in-Err-Damaged-clause-silent : goal.returns-in-Err-Damaged-clause-silent
-returns-in-Err-Damaged-clause-silent g c = λ none. (refl, refl, record { unchanged = c.in-Err-Damaged.ensures.err; unwritten = c.open.ensures.refused none })
+pub returns-in-Err-Damaged-clause-silent_keeper : goal.returns-in-Err-Damaged-clause-silent_keeper
+returns-in-Err-Damaged-clause-silent_keeper g c = λ none. record { unchanged = c.in-Err-Damaged.ensures.err; unwritten = c.open.ensures.refused none }
 
-pub returns-in-Err-Format-clause-silent : goal.returns-in-Err-Format-clause-silent
-returns-in-Err-Format-clause-silent g c = λ none. (refl, refl, record { unchanged = c.in-Err-Format.ensures.err; unwritten = c.open.ensures.refused none })
+pub returns-in-Err-Format-clause-silent_keeper : goal.returns-in-Err-Format-clause-silent_keeper
+returns-in-Err-Format-clause-silent_keeper g c = λ none. record { unchanged = c.in-Err-Format.ensures.err; unwritten = c.open.ensures.refused none }
 
-pub returns-in-Err-Fault-clause-silent : goal.returns-in-Err-Fault-clause-silent
-returns-in-Err-Fault-clause-silent g c = λ none. (refl, refl, record { unchanged = c.in-Err-Fault.ensures.err; unwritten = c.open.ensures.refused none })
+pub returns-in-Err-Fault-clause-silent_keeper : goal.returns-in-Err-Fault-clause-silent_keeper
+returns-in-Err-Fault-clause-silent_keeper g c = λ none. record { unchanged = c.in-Err-Fault.ensures.err; unwritten = c.open.ensures.refused none }
 
-pub returns-in-Err-Memory-clause-silent : goal.returns-in-Err-Memory-clause-silent
-returns-in-Err-Memory-clause-silent g c = λ none. (refl, refl, record { unchanged = c.in-Err-Memory.ensures.err; unwritten = c.open.ensures.refused none })
+pub returns-in-Err-Memory-clause-silent_keeper : goal.returns-in-Err-Memory-clause-silent_keeper
+returns-in-Err-Memory-clause-silent_keeper g c = λ none. record { unchanged = c.in-Err-Memory.ensures.err; unwritten = c.open.ensures.refused none }
 
 pub returns-clause-none : goal.returns-clause-none
 returns-clause-none g c = λ none. absurd (none c.in-Ok.ensures.stand.base c.in-Ok.ensures.stand.stand)

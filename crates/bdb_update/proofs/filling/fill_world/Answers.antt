@@ -2,7 +2,7 @@ use Rattle.std.proofs.Common.{◌∙◌, ap, sym, subst, arith}
 use Rattle.std.specs.FinMap as tables
 use Rattle.bdb_keep.specs.Tables.{Tables}
 use Rattle.bdb_val.specs.WorldCopies.{CopiesWorld, IsBare}
-use Rattle.bdb_update.proofs.ComeLemmas.{told_back}
+use Rattle.bdb_val.proofs.WalkingLemmas.{told_back}
 use Rattle.bdb_update.proofs.filling.fill_world.Goals as goal
 
 pub returns-in-Ok-copy_world-clause-filled : goal.returns-in-Ok-copy_world-clause-filled

@@ -1,6 +1,6 @@
 use Rattle.std.proofs.Common.{◌∙◌}
 use Rattle.bdb_base.specs.Bases.{key_lengths}
-use Rattle.bdb_update.proofs.KeyLemmas.{clash_of}
+use Rattle.bdb_base.proofs.ClashLemmas.{clash_of}
 use Rattle.bdb_update.proofs.keys.clash_in.Goals as goal
 
 pub returns : goal.returns

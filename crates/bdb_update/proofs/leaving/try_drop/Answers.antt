@@ -47,25 +47,25 @@ pub returns-in-None-clause-tried : goal.returns-in-None-clause-tried
 returns-in-None-clause-tried g c =
     let old = g.K.Keeper.seen c.args.keeper.now in
     let mid = g.K.Keeper.seen c.look.new.keeper in
-    drop_absent old mid c.args.counts.now c.args.stmt.now c.in-Ok.place (quiet_read old mid c.in-Ok.place Fault c.in-Ok.ensures.read) c.in-Ok.ensures.place (sym c.in-None.ensures)
+    drop_absent old mid c.args.counts.now c.args.stmt.now c.in-Ok.finding (quiet_read old mid c.in-Ok.finding Fault c.in-Ok.ensures.read) c.in-Ok.ensures.finding (sym c.in-None.ensures)
 
 pub leave-requires-clause-base : goal.leave-requires-clause-base
 leave-requires-clause-base g c =
     let old = g.K.Keeper.seen c.args.keeper.now in
     let mid = g.K.Keeper.seen c.look.new.keeper in
-    some_may_part old mid c.args.counts.now c.args.stmt.now c.in-Ok.place c.in-Ok.ensures.place (quiet_read old mid c.in-Ok.place Fault c.in-Ok.ensures.read) c.in-Some.tid (sym c.in-Some.ensures) c.requires.base
+    some_may_part old mid c.args.counts.now c.args.stmt.now c.in-Ok.finding c.in-Ok.ensures.finding (quiet_read old mid c.in-Ok.finding Fault c.in-Ok.ensures.read) c.in-Some.tid (sym c.in-Some.ensures) c.requires.base
 
 pub leave-requires-clause-world : goal.leave-requires-clause-world
 leave-requires-clause-world g c =
     let old = g.K.Keeper.seen c.args.keeper.now in
     let mid = g.K.Keeper.seen c.look.new.keeper in
-    world_now old mid c.args.counts.now c.args.stmt.now c.in-Ok.place c.in-Ok.ensures.place (quiet_read old mid c.in-Ok.place Fault c.in-Ok.ensures.read) c.in-Some.tid (sym c.in-Some.ensures) c.requires.base
+    world_now old mid c.args.counts.now c.args.stmt.now c.in-Ok.finding c.in-Ok.ensures.finding (quiet_read old mid c.in-Ok.finding Fault c.in-Ok.ensures.read) c.in-Some.tid (sym c.in-Some.ensures) c.requires.base
 
 pub counts_less-requires : goal.counts_less-requires
 counts_less-requires g c =
     let old = g.K.Keeper.seen c.args.keeper.now in
     let mid = g.K.Keeper.seen c.look.new.keeper in
-    may_lose_now old mid (g.K.Keeper.seen c.leave.new.keeper) c.args.counts.now c.args.stmt.now c.in-Ok.place c.in-Ok.ensures.place (quiet_read old mid c.in-Ok.place Fault c.in-Ok.ensures.read)
+    may_lose_now old mid (g.K.Keeper.seen c.leave.new.keeper) c.args.counts.now c.args.stmt.now c.in-Ok.finding c.in-Ok.ensures.finding (quiet_read old mid c.in-Ok.finding Fault c.in-Ok.ensures.read)
     c.in-Some.tid (sym c.in-Some.ensures) c.in-Ok-leave.gone c.in-Ok-leave.ensures.counted c.requires.base
 
 pub returns-in-Ok-leave-clause-tried : goal.returns-in-Ok-leave-clause-tried
@@ -73,8 +73,8 @@ returns-in-Ok-leave-clause-tried g c =
     let old = g.K.Keeper.seen c.args.keeper.now in
     let mid = g.K.Keeper.seen c.look.new.keeper in
     let new = g.K.Keeper.seen c.leave.new.keeper in
-    let quiet = quiet_read old mid c.in-Ok.place Fault c.in-Ok.ensures.read in
-    drop_leaves old mid new c.args.counts.now c.args.stmt.now c.in-Ok.place c.in-Ok.ensures.place quiet
+    let quiet = quiet_read old mid c.in-Ok.finding Fault c.in-Ok.ensures.read in
+    drop_leaves old mid new c.args.counts.now c.args.stmt.now c.in-Ok.finding c.in-Ok.ensures.finding quiet
     c.in-Some.tid (sym c.in-Some.ensures) c.in-Ok-leave.gone c.in-Ok-leave.ensures.counted c.counts_less.result c.counts_less.ensures c.in-Ok-leave.ensures.left
     (goes_then old mid new quiet.goes c.in-Ok-leave.ensures.changing.steps.ok)
 
@@ -86,7 +86,7 @@ pub returns-in-Ok-leave-clause-writes : goal.returns-in-Ok-leave-clause-writes
 returns-in-Ok-leave-clause-writes g c =
     let old = g.K.Keeper.seen c.args.keeper.now in
     let mid = g.K.Keeper.seen c.look.new.keeper in
-    quiet_within (length c.args.stmt.now.path + 2) 8 old mid (g.K.Keeper.seen c.leave.new.keeper) (quiet_read old mid c.in-Ok.place Fault c.in-Ok.ensures.read) c.in-Ok-leave.ensures.writes
+    quiet_within (length c.args.stmt.now.path + 2) 8 old mid (g.K.Keeper.seen c.leave.new.keeper) (quiet_read old mid c.in-Ok.finding Fault c.in-Ok.ensures.read) c.in-Ok-leave.ensures.writes
 
 pub returns-in-None-clause-keeps : goal.returns-in-None-clause-keeps
 returns-in-None-clause-keeps g c =
@@ -98,4 +98,4 @@ returns-in-Ok-leave-clause-keeps g c =
 
 pub leave-requires-clause-length : goal.leave-requires-clause-length
 leave-requires-clause-length g c =
-    subst (λ (t : Tables). IsKeyLength t c.args.stmt.now.tuple.rel c.in-Ok.place.key_len) (sym c.in-Ok.ensures.read.kept) c.in-Ok.ensures.place.key_length
+    subst (λ (t : Tables). IsKeyLength t c.args.stmt.now.tuple.rel c.in-Ok.finding.key_len) (sym c.in-Ok.ensures.read.kept) c.in-Ok.ensures.finding.key_length

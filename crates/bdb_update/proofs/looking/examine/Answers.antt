@@ -42,16 +42,16 @@ returns-in-Err-clause-read g c =
 pub returns-in-Ok-judge-clause-examined : goal.returns-in-Ok-judge-clause-examined
 returns-in-Ok-judge-clause-examined g c =
     let t = (g.K.Keeper.seen c.args.keeper.now).kept in
-    subst (Examines t c.args.counts.now c.args.stmt.now) (sym c.in-Ok-judge.ensures) (examined t c.args.counts.now c.args.stmt.now c.in-Ok.place c.in-Ok.ensures.place)
+    subst (Examines t c.args.counts.now c.args.stmt.now) (sym c.in-Ok-judge.ensures) (examined t c.args.counts.now c.args.stmt.now c.in-Ok.finding c.in-Ok.ensures.finding)
 
 pub returns-in-Ok-judge-clause-read : goal.returns-in-Ok-judge-clause-read
 returns-in-Ok-judge-clause-read g c =
     let old = g.K.Keeper.seen c.args.keeper.now in
     let new = g.K.Keeper.seen c.look.new.keeper in
-    read_ok old new c.in-Ok-judge.verdict Fault c.requires.running (quiet_read old new c.in-Ok.place Fault c.in-Ok.ensures.read)
+    read_ok old new c.in-Ok-judge.verdict Fault c.requires.running (quiet_read old new c.in-Ok.finding Fault c.in-Ok.ensures.read)
 
 pub returns-clause-read : goal.returns-clause-read
 returns-clause-read g c =
     let old = g.K.Keeper.seen c.args.keeper.now in
     let mid = g.K.Keeper.seen c.look.new.keeper in
-    read_undone old mid (g.K.Keeper.seen c.undo.new.self) c.requires.running (quiet_read old mid c.in-Ok.place Fault c.in-Ok.ensures.read) c.undo.ensures.undone
+    read_undone old mid (g.K.Keeper.seen c.undo.new.self) c.requires.running (quiet_read old mid c.in-Ok.finding Fault c.in-Ok.ensures.read) c.undo.ensures.undone

@@ -1,5 +1,6 @@
 use Rattle.std.proofs.Common.{◌∙◌}
-use Rattle.bdb_update.proofs.StandingLemmas.{read_answers, read_refused, prospect_tells}
+use Rattle.bdb_tables.proofs.Loops.{read_answers}
+use Rattle.bdb_update.proofs.StandingLemmas.{read_refused, prospect_tells}
 use Rattle.bdb_update.proofs.standing.stands.Goals as goal
 
 pub returns-in-Ok-clause-stands : goal.returns-in-Ok-clause-stands

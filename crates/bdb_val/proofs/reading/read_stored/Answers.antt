@@ -7,7 +7,7 @@ use Rattle.bdb_tables.specs.InUse.{tuple_codec}
 use Rattle.bdb_tables.specs.Marks.{Mark}
 use Rattle.bdb_tables.specs.declared.tab.TabError.TheVariants.{Fault}
 use Rattle.bdb_tables.proofs.Loops.{reading_more, all_at_index}
-use Rattle.bdb_val.specs.declared.stored.Stored.{Stored}
+use Rattle.bdb_val.specs.declared.stored.StoredRow.{StoredRow}
 use Rattle.bdb_val.proofs.NumberedLemmas.{Entry, one_place}
 use Rattle.bdb_val.proofs.ToldLemmas.{AreToldAt, entries_stand, numbers_stand, told_at_more, told_entries}
 use Rattle.bdb_val.proofs.reading.read_stored.Goals as goal
@@ -35,7 +35,7 @@ loop-entry-preserved g c =
     let i = c.loop-entry.entry-index in
     let n : Entry = get_or ns i (0, (Plus, false)) in
     let h = c.loop-entry.invariant in
-    let x : Stored = record { tid = n.0; tuple = c.in-Ok-read_tuple.tuple; mark = n.1 } in
+    let x : StoredRow = record { tid = n.0; tuple = c.in-Ok-read_tuple.tuple; mark = n.1 } in
     let pushed : c.push.new.self.items ≡ c.loop-entry.rows.items ++ x ∷ [] = search rules in
     let row : HasRow tuple_codec old.kept x.tid x.tuple = subst (λ t. HasRow tuple_codec t x.tid x.tuple) h.kept c.in-Ok-read_tuple.ensures.tuple in
     let reads : new.reads ≤ old.reads + (length ns + 1) + (i + 1) = omega (arith, c.in-Ok-read_tuple.ensures.reads, h.read.reads) in

@@ -3,7 +3,7 @@ use Rattle.bdb_tables.specs.GroupMarks.{group_bytes, in_group}
 use Rattle.bdb_tables.specs.InUse.{val_codec}
 use Rattle.bdb_tables.specs.Marks.{Mark}
 use Rattle.bdb_tables.specs.Spans.{AreUnder}
-use Rattle.bdb_val.specs.Rooms.{AreHanded, AreRowsOf, AreSingle}
+use Rattle.bdb_val.specs.Rooms.{AreHanded, AreRoomRows, AreSingle}
 use Rattle.bdb_val.proofs.settle.keep_linked.Goals as goal
 
 pub returns-in-Ok-clause-rows : goal.returns-in-Ok-clause-rows
@@ -30,6 +30,6 @@ returns-in-Ok-clause-room g c =
     record {
       begins = c.requires.room.begins;
       handed = subst (λ (o : Option ℕ). AreHanded old rel v o c.keep_single.new.handed.rows.items) (sym c.in-Ok.ensures.from)
-          (subst (λ (xs : List (ℕ × Mark)). AreRowsOf old rel v xs wid) (sym c.in-Ok.ensures.rows) (c.requires.room.singles_are wid row found));
+          (subst (λ (xs : List (ℕ × Mark)). AreRoomRows old rel v xs wid) (sym c.in-Ok.ensures.rows) (c.requires.room.singles_are wid row found));
       singles_are = subst (AreSingle old rel v) (sym c.in-Ok.ensures.singles) c.requires.room.singles_are;
     }

@@ -1,6 +1,7 @@
 use Rattle.std.proofs.Common.{◌≡◌, ◌∙◌, ℕ, List, length, map, Option, inr, ap, sym, subst}
 use Rattle.std.specs.List.{AllByRecursion}
 use Rattle.bdb_base.specs.Causes.{Rises}
+use Rattle.bdb_base.proofs.ListLemmas.{length_map}
 use Rattle.bdb_keep.specs.Tables.{Tables}
 use Rattle.bdb_tables.specs.GroupMarks.{BeginsGroup, group_bytes, in_group}
 use Rattle.bdb_tables.specs.InUse.{val_codec}
@@ -14,7 +15,6 @@ use Rattle.bdb_val.specs.Steps.{rows_made, Tells}
 use Rattle.bdb_val.proofs.GroupLemmas.{group_read}
 use Rattle.bdb_val.proofs.RoomLemmas.{handed_stay, singles_after}
 use Rattle.bdb_val.proofs.OtherLemmas.{made_same}
-use Rattle.bdb_val.proofs.RealLemmas.{length_mapped}
 use Rattle.bdb_val.proofs.StateLemmas.{fits_at, group_keeps_tuples, group_tells}
 use Rattle.bdb_val.proofs.settle.settle_state.Goals as goal
 
@@ -54,7 +54,7 @@ returns-in-Ok-write_changes-clause-settled g c linked keys stmts n tuple f h =
         written = c.in-Ok-write_changes.ensures.kept wid rel v bytes ∙ ap (λ (t : Tables). with_changes val_codec t (map (in_group wid rel v) cs)) kept ∙ ap (with_changes val_codec old.kept) made;
       };
       tells = subst (λ xs. Tells (mark_in read.own) xs c.in-Ok-write_changes.settled) made (group_tells old.kept wid rel v es read.own cs c.in-Ok-write_changes.settled read.told told);
-      writes = subst (λ n. Rises n old.writes new.writes) (sym (length_mapped (in_group wid rel v) cs) ∙ ap length made) (subst (λ n. Rises (length cs) n new.writes) writes c.in-Ok-write_changes.ensures.writes);
+      writes = subst (λ n. Rises n old.writes new.writes) (sym (length_map (in_group wid rel v) cs) ∙ ap length made) (subst (λ n. Rises (length cs) n new.writes) writes c.in-Ok-write_changes.ensures.writes);
     }
 
 pub returns-in-Ok-write_changes-clause-tuples : goal.returns-in-Ok-write_changes-clause-tuples

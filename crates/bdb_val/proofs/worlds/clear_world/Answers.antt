@@ -1,11 +1,11 @@
 use Rattle.std.proofs.Common.{◌∙◌, ◌<◌, ◌^◌, map, refl, sym, subst, rules}
 use Rattle.bdb_base.specs.Causes.{Rises}
+use Rattle.bdb_base.proofs.ListLemmas.{length_map}
 use Rattle.bdb_tables.specs.Copies.{removed}
 use Rattle.bdb_val.specs.Reads.{world_prefix}
 use Rattle.bdb_val.proofs.CopyLemmas.{clears_world, mapped_keep_tuples}
 use Rattle.bdb_val.proofs.CopyTells.{clear_tells}
 use Rattle.bdb_val.proofs.OtherLemmas.{made_same}
-use Rattle.bdb_val.proofs.RealLemmas.{length_mapped}
 use Rattle.bdb_val.proofs.worlds.clear_world.Goals as goal
 
 pub returns-in-Ok-clause-cleared : goal.returns-in-Ok-clause-cleared
@@ -30,7 +30,7 @@ returns-in-Ok-clause-tells g c =
     let new = g.K.Keeper.seen c.clear_rows.new.keeper in
     let small : c.in-Ok.many < 2 ^ 64 = search rules in
     clear_tells old new c.args.wid c.in-Ok.many h.rows c.ranges.wid.fits small h.under h.many h.made
-    (subst (λ n. Rises n old.writes new.writes) (h.many ∙ sym (length_mapped removed h.rows)) c.in-Ok.ensures.writes)
+    (subst (λ n. Rises n old.writes new.writes) (h.many ∙ sym (length_map removed h.rows)) c.in-Ok.ensures.writes)
 
 pub returns-in-Ok-clause-tuples : goal.returns-in-Ok-clause-tuples
 returns-in-Ok-clause-tuples g c =

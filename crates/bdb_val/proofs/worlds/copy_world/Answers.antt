@@ -1,11 +1,11 @@
 use Rattle.std.proofs.Common.{◌∙◌, ◌<◌, ◌^◌, map, refl, sym, subst, rules}
 use Rattle.bdb_base.specs.Causes.{Rises}
+use Rattle.bdb_base.proofs.ListLemmas.{length_map}
 use Rattle.bdb_tables.specs.Copies.{copied}
 use Rattle.bdb_val.specs.Reads.{world_prefix}
 use Rattle.bdb_val.proofs.CopyLemmas.{copies_world, mapped_keep_tuples}
 use Rattle.bdb_val.proofs.CopyTells.{copy_tells}
 use Rattle.bdb_val.proofs.OtherLemmas.{made_same}
-use Rattle.bdb_val.proofs.RealLemmas.{length_mapped}
 use Rattle.bdb_val.proofs.worlds.copy_world.Goals as goal
 
 pub returns-in-Ok-clause-copied : goal.returns-in-Ok-clause-copied
@@ -30,7 +30,7 @@ returns-in-Ok-clause-tells g c =
     let new = g.K.Keeper.seen c.copy_rows.new.keeper in
     let small : c.in-Ok.many < 2 ^ 64 = search rules in
     copy_tells old new c.args.from c.args.to c.in-Ok.many h.rows c.ranges.from.fits c.ranges.to.fits small h.under h.many h.made
-    (subst (λ n. Rises n old.writes new.writes) (h.many ∙ sym (length_mapped (copied c.args.to) h.rows)) c.in-Ok.ensures.writes)
+    (subst (λ n. Rises n old.writes new.writes) (h.many ∙ sym (length_map (copied c.args.to) h.rows)) c.in-Ok.ensures.writes)
 
 pub returns-in-Ok-clause-tuples : goal.returns-in-Ok-clause-tuples
 returns-in-Ok-clause-tuples g c =

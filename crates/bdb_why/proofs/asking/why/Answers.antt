@@ -3,13 +3,13 @@ use Rattle.bdb_base.specs.declared.tuple.Tuple.{Tuple}
 use Rattle.bdb_keep.specs.Tables.{Tables}
 use Rattle.bdb_tables.specs.Lengths.{IsKeyLength}
 use Rattle.bdb_tables.specs.declared.tab.TabError.TheVariants.{Fault, Memory}
-use Rattle.bdb_tables.proofs.Loops.{counts_then, goes_then, steps_err, steps_ok}
+use Rattle.bdb_tables.proofs.Loops.{counts_then, goes_then, steps_err, steps_ok, err_steps}
 use Rattle.bdb_update.specs.Keys.{keys_of}
 use Rattle.bdb_worlds.proofs.StepsLemmas.{steps_undone}
 use Rattle.bdb_why.specs.Certificates.{why_of}
 use Rattle.bdb_why.specs.Ends.{is_near}
 use Rattle.bdb_why.specs.Stored.{MayAsk, SomeMayAsk}
-use Rattle.bdb_why.proofs.CallLemmas.{first_err, rose_one}
+use Rattle.bdb_why.proofs.CallLemmas.{rose_one}
 use Rattle.bdb_why.proofs.LengthLemmas.{why_of_length}
 use Rattle.bdb_why.proofs.NearLemmas.{why_depends_on_near}
 use Rattle.bdb_why.proofs.NearbyLemmas.{ask_grammar}
@@ -19,7 +19,7 @@ pub stored_key_length-requires : goal.stored_key_length-requires
 stored_key_length-requires g c = record { grammar = ask_grammar (g.K.Keeper.seen c.args.keeper.now).kept c.args.path.now c.args.t.now c.requires.base }
 
 pub returns-in-Err-clause-steps : goal.returns-in-Err-clause-steps
-returns-in-Err-clause-steps g c = first_err _ _ _ _ c.in-Err.ensures.read.steps
+returns-in-Err-clause-steps g c = err_steps _ _ _ _ c.in-Err.ensures.read.steps
 
 pub near_statements-requires-clause-base : goal.near_statements-requires-clause-base
 near_statements-requires-clause-base g c =

@@ -3,8 +3,8 @@ use Rattle.bdb_keep.specs.Tables.{Tables}
 use Rattle.bdb_tables.specs.InUse.{link_codec}
 use Rattle.bdb_tables.specs.declared.tab.TabError.TheVariants.{Fault}
 use Rattle.bdb_tables.proofs.Numbered.{at_old}
+use Rattle.bdb_update.proofs.StandingLemmas.{read_refused}
 use Rattle.bdb_why.specs.Reading.{HasDepth, SomeHaveState}
-use Rattle.bdb_why.proofs.CallLemmas.{read_err}
 use Rattle.bdb_why.proofs.LinkLemmas.{link_has_state, link_is_there, link_leads}
 use Rattle.bdb_why.proofs.descent.next_end.Goals as goal
 
@@ -15,7 +15,7 @@ unreachable-requires g c =
     (at_old link_codec kept kept c.args.wid c.in-Ok-None.field-0 None refl c.in-Ok-None.field-0-is c.in-Ok-None.ensures.found)
 
 pub returns-in-Err-clause-read : goal.returns-in-Err-clause-read
-returns-in-Err-clause-read g c = read_err (g.K.Keeper.seen c.args.keeper.now) (g.K.Keeper.seen c.get.new.keeper) c.in-Err.error Fault c.in-Err.ensures.read
+returns-in-Err-clause-read g c = read_refused (g.K.Keeper.seen c.args.keeper.now) (g.K.Keeper.seen c.get.new.keeper) c.in-Err.error Fault c.in-Err.ensures.read
 
 pub depth_of-requires-clause-state : goal.depth_of-requires-clause-state
 depth_of-requires-clause-state g c =

@@ -5,10 +5,9 @@ use Rattle.bdb_base.specs.SortedSet.{ascending}
 use Rattle.bdb_keep.specs.Tables.{Tables}
 use Rattle.bdb_tables.specs.Grammar.{InGrammar}
 use Rattle.bdb_tables.specs.Lengths.{IsKeyLength}
-use Rattle.bdb_tables.proofs.Loops.{counts_then, goes_then, steps_err, steps_ok}
+use Rattle.bdb_tables.proofs.Loops.{counts_then, goes_then, steps_err, steps_ok, err_steps}
 use Rattle.bdb_val.specs.Reads.{HaveTuples}
 use Rattle.bdb_why.specs.Reading.{LinksTo, PutsNear, ReadsHere, SomeHaveLink}
-use Rattle.bdb_why.proofs.CallLemmas.{first_err}
 use Rattle.bdb_why.proofs.NearbyLemmas.{apart_after, ask_grammar, ask_states, ask_tuples, linked, near_begins, near_ends, onward, past, reads_begin, reads_end_here}
 use Rattle.bdb_why.proofs.nearby.near_statements.Goals as goal
 
@@ -19,7 +18,7 @@ pub deepest_state-requires-clause-states : goal.deepest_state-requires-clause-st
 deepest_state-requires-clause-states g c = ask_states (g.K.Keeper.seen c.args.keeper.now).kept c.args.path.now c.args.t.now c.requires.base
 
 pub returns-in-Err-clause-steps : goal.returns-in-Err-clause-steps
-returns-in-Err-clause-steps g c = first_err _ _ _ _ c.in-Err.ensures.steps
+returns-in-Err-clause-steps g c = err_steps _ _ _ _ c.in-Err.ensures.steps
 
 pub loop-rest-init : goal.loop-rest-init
 loop-rest-init g c =

@@ -3,10 +3,10 @@ use Rattle.std.specs.Option.{is_some}
 use Rattle.std.specs.FinMap as map
 use Rattle.bdb_tables.specs.Codec.{place}
 use Rattle.bdb_tables.specs.InUse.{link_codec}
+use Rattle.bdb_tables.proofs.Loops.{goes_then, counts_then}
 use Rattle.bdb_worlds.proofs.LeaveLemmas.{dropped_outside}
 use Rattle.bdb_worlds.proofs.OutsideLemmas.{same_itself, outside_then}
 use Rattle.bdb_worlds.proofs.ShrinkLemmas.{shrinking_begins, shrinking_stops, shrinking_more, link_is_there, needed_then, dropped_then, drops_ends}
-use Rattle.bdb_worlds.proofs.StepsLemmas.{goes_then, falls_then}
 use Rattle.bdb_worlds.proofs.SpentLemmas.{Spending, spending_begins, spending_more, spending_ends, within_after}
 use Rattle.bdb_worlds.proofs.dropping.drop_dead.Goals as goal
 
@@ -74,6 +74,6 @@ loop-back-preserved g c =
           _ (subst (λ w. Spending t c.args.path.now c.loop-back.gone.items (length c.args.numbers.now - c.loop-back.back) (g.K.Keeper.seen c.args.keeper.now).writes w) (sym c.in-Ok-false.ensures.writes) c.loop-back.invariant.spent);
       others = outside_then t u v c.loop-back.invariant.others (dropped_outside u v _ _ _ dropped);
       grammar = c.in-Ok.ensures.grammar;
-      counts = falls_then _ _ _ c.loop-back.invariant.counts (falls_then _ _ _ c.in-Ok-false.ensures.counts c.in-Ok.ensures.counts);
+      counts = counts_then _ _ _ c.loop-back.invariant.counts (counts_then _ _ _ c.in-Ok-false.ensures.counts c.in-Ok.ensures.counts);
       goes_on = goes_then _ _ _ (goes_then _ _ _ c.loop-back.invariant.goes_on c.in-Ok-false.ensures.steps.ok) c.in-Ok.ensures.steps.ok;
     }

@@ -2,8 +2,8 @@ use Rattle.std.proofs.Common.{subst, rules, None}
 use Rattle.bdb_key.specs.Grammar.{IsNum}
 use Rattle.bdb_tables.specs.Codec.{HasFirst}
 use Rattle.bdb_tables.specs.InUse.{depth_codec}
+use Rattle.bdb_tables.proofs.Held.{depths_fit}
 use Rattle.bdb_worlds.proofs.FreeLemmas.{count_is_free, gap_is_free}
-use Rattle.bdb_worlds.proofs.ReadLemmas.{depths_fit}
 use Rattle.bdb_worlds.proofs.UserEdgeLemmas.{number_from_low}
 use Rattle.bdb_worlds.proofs.free.free_number.Goals as goal
 

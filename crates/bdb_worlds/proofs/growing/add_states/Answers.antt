@@ -4,10 +4,12 @@ use Rattle.std.specs.FinMap as map
 use Rattle.bdb_tables.specs.Codec.{place}
 use Rattle.bdb_tables.specs.InUse.{edge_codec}
 use Rattle.bdb_tables.specs.declared.tab.TabError.TheVariants.{Fault, Memory}
-use Rattle.bdb_worlds.proofs.GrowLemmas.{growing_begins, growing_at, growing_more, growing_ends, added_at, has_edge, is_room, length-snoc}
+use Rattle.bdb_tables.proofs.Loops.{goes_then, counts_then}
+use Rattle.bdb_names.proofs.Ends.{length_more}
+use Rattle.bdb_worlds.proofs.GrowLemmas.{growing_begins, growing_at, growing_more, growing_ends, added_at, has_edge, is_room}
 use Rattle.bdb_worlds.proofs.MadeLemmas.{Making, making_begins, making_more, making_ends}
 use Rattle.bdb_worlds.proofs.OutsideLemmas.{SameElsewhere, same_itself, outside_then, added_outside}
-use Rattle.bdb_worlds.proofs.StepsLemmas.{goes_then, falls_then, steps_undone}
+use Rattle.bdb_worlds.proofs.StepsLemmas.{steps_undone}
 use Rattle.bdb_worlds.proofs.growing.add_states.Goals as goal
 
 pub longest_state-requires-clause-states : goal.longest_state-requires-clause-states
@@ -54,7 +56,7 @@ loop-k-preserved g c =
     let v = (g.K.Keeper.seen c.add_next.new.keeper).kept in
     let inside : c.loop-k.k < length c.args.path.now = search rules in
     let added = added_at u (g.K.Keeper.seen c.free_number.new.keeper).kept v c.loop-k.at _ _ _ _ _ c.in-Ok-free_number.ensures.kept c.in-Ok-add_next.ensures.added in
-    let longer = ap length c.in-Ok-push.ensures.items ∙ length-snoc c.loop-k.numbers.items c.in-Ok-free_number.number in
+    let longer = ap length c.in-Ok-push.ensures.items ∙ length_more c.loop-k.numbers.items c.in-Ok-free_number.number in
     let done = c.loop-k.invariant.done in
     let count = c.loop-k.invariant.count in
     record {
@@ -67,7 +69,7 @@ loop-k-preserved g c =
       grammar = c.in-Ok-add_next.ensures.grammar;
       done = omega arith;
       count = omega arith;
-      counts = falls_then _ _ _ c.loop-k.invariant.counts (falls_then _ _ _ c.in-Ok-free_number.ensures.counts c.in-Ok-add_next.ensures.counts);
+      counts = counts_then _ _ _ c.loop-k.invariant.counts (counts_then _ _ _ c.in-Ok-free_number.ensures.counts c.in-Ok-add_next.ensures.counts);
       goes_on = goes_then _ _ _ (goes_then _ _ _ c.loop-k.invariant.goes_on c.in-Ok-free_number.ensures.steps.ok) c.in-Ok-add_next.ensures.steps.ok;
     }
 

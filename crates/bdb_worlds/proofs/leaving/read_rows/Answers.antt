@@ -1,6 +1,7 @@
 use Rattle.std.proofs.Common.{◌∙◌, sym, subst}
 use Rattle.bdb_tables.specs.Grammar.{InGrammar}
-use Rattle.bdb_worlds.proofs.ReadLemmas.{links_fit, linked_fit, edges_fit, led_fit}
+use Rattle.bdb_tables.proofs.Held.{links_fit, edges_fit}
+use Rattle.bdb_worlds.proofs.ReadLemmas.{linked_fit, led_fit}
 use Rattle.bdb_worlds.proofs.leaving.read_rows.Goals as goal
 
 pub get-requires-clause-grammar : goal.get-requires-clause-grammar

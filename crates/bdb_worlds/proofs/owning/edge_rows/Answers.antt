@@ -2,7 +2,7 @@ use Rattle.std.proofs.Common.{◌≡◌, rules, subst, List, ℕ}
 use Rattle.bdb_key.specs.Bytes.{num_bytes}
 use Rattle.bdb_tables.specs.InUse.{edge_codec}
 use Rattle.bdb_tables.specs.Spans.{AreUnder}
-use Rattle.bdb_worlds.proofs.ReadLemmas.{edges_fit}
+use Rattle.bdb_tables.proofs.Held.{edges_fit}
 use Rattle.bdb_worlds.proofs.owning.edge_rows.Goals as goal
 
 pub rows_under-requires : goal.rows_under-requires

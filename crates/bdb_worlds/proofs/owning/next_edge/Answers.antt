@@ -2,9 +2,9 @@ use Rattle.std.proofs.Common.{sym, subst, rules, Some, None}
 use Rattle.bdb_key.specs.Grammar.{IsNum}
 use Rattle.bdb_tables.specs.Codec.{HasFirst}
 use Rattle.bdb_tables.specs.InUse.{edge_codec}
+use Rattle.bdb_tables.proofs.Held.{edges_fit}
 use Rattle.bdb_worlds.specs.Owns.{HasNextEdge}
 use Rattle.bdb_worlds.proofs.OwnLemmas.{edge_from_low, edge_none, edge_some}
-use Rattle.bdb_worlds.proofs.ReadLemmas.{edges_fit}
 use Rattle.bdb_worlds.proofs.owning.next_edge.Goals as goal
 
 pub next_in-requires-clause-grammar : goal.next_in-requires-clause-grammar

@@ -1,4 +1,4 @@
-use Rattle.bdb_worlds.proofs.ReadLemmas.{edges_fit}
+use Rattle.bdb_tables.proofs.Held.{edges_fit}
 use Rattle.bdb_worlds.proofs.reach.deep_target.Goals as goal
 
 pub get_in-requires-clause-grammar : goal.get_in-requires-clause-grammar

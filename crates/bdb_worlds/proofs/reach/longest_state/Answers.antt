@@ -2,9 +2,10 @@ use Rattle.std.proofs.Common.{◌≡◌, ◌∙◌, ◌+◌, sym, subst, rules, 
 use Rattle.bdb_tables.specs.Grammar.{InGrammar}
 use Rattle.bdb_tables.specs.InUse.{edge_codec, depth_codec}
 use Rattle.bdb_tables.proofs.Numbered.{at_old}
+use Rattle.bdb_tables.proofs.Loops.{goes_then, counts_then}
+use Rattle.bdb_tables.proofs.Held.{depths_fit}
 use Rattle.bdb_worlds.proofs.ReachLemmas.{reached_more, reach_ends, edge_is_there, depth_is_there}
-use Rattle.bdb_worlds.proofs.ReadLemmas.{depths_fit}
-use Rattle.bdb_worlds.proofs.StepsLemmas.{goes_then, falls_then, steps_err, steps_ok}
+use Rattle.bdb_worlds.proofs.StepsLemmas.{steps_err, steps_ok}
 use Rattle.bdb_worlds.proofs.reach.longest_state.Goals as goal
 
 pub unreachable-requires : goal.unreachable-requires
@@ -52,6 +53,6 @@ loop-len-preserved g c =
           same;
       kept = c.in-Ok-Some-get_in.ensures.read.kept ∙ c.in-Ok-Some.ensures.read.kept ∙ c.loop-len.invariant.kept;
       writes = c.in-Ok-Some-get_in.ensures.read.writes ∙ c.in-Ok-Some.ensures.read.writes ∙ c.loop-len.invariant.writes;
-      counts = falls_then _ _ _ c.loop-len.invariant.counts (falls_then _ _ _ c.in-Ok-Some.ensures.read.counts c.in-Ok-Some-get_in.ensures.read.counts);
+      counts = counts_then _ _ _ c.loop-len.invariant.counts (counts_then _ _ _ c.in-Ok-Some.ensures.read.counts c.in-Ok-Some-get_in.ensures.read.counts);
       goes_on = goes_then _ _ _ (goes_then _ _ _ c.loop-len.invariant.goes_on c.in-Ok-Some.ensures.read.steps.ok) c.in-Ok-Some-get_in.ensures.read.steps.ok;
     }

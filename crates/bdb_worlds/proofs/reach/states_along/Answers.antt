@@ -1,5 +1,6 @@
 use Rattle.std.proofs.Common.{◌∙◌, ap, arith, length, rules, Some, None}
-use Rattle.bdb_worlds.proofs.ShrinkLemmas.{deep_at, deep_reached, deep_ends, collected_more, length-push}
+use Rattle.bdb_names.proofs.Ends.{length_more}
+use Rattle.bdb_worlds.proofs.ShrinkLemmas.{deep_at, deep_reached, deep_ends, collected_more}
 use Rattle.bdb_worlds.proofs.reach.states_along.Goals as goal
 
 pub returns-in-Ok-None-clause-found : goal.returns-in-Ok-None-clause-found
@@ -14,7 +15,7 @@ loop-len-preserved g c =
     let target = c.in-Ok-Some.target in
     let leads = deep_at t (g.K.Keeper.seen c.loop-len.keeper).kept c.loop-len.wid _ _ c.in-Ok-Some.field-0 (Some target) c.loop-len.invariant.kept c.in-Ok-Some.field-0-is c.in-Ok-Some.ensures.found in
     let reached = deep_reached t c.args.path.now c.loop-len.len c.loop-len.wid c.requires.apart c.loop-len-test.true c.loop-len.invariant.at target leads in
-    let count = ap length c.in-Ok.ensures.items ∙ length-push c.loop-len.numbers.items target in
+    let count = ap length c.in-Ok.ensures.items ∙ length_more c.loop-len.numbers.items target in
     let done = c.loop-len.invariant.done in
     record {
       at = reached;

@@ -1,7 +1,7 @@
 use Rattle.std.proofs.Common.{◌∙◌, refl, Some}
 use Rattle.bdb_tables.specs.InUse.{edge_codec}
 use Rattle.bdb_tables.proofs.Numbered.{at_old}
-use Rattle.bdb_worlds.proofs.ReadLemmas.{edges_fit}
+use Rattle.bdb_tables.proofs.Held.{edges_fit}
 use Rattle.bdb_worlds.proofs.TakenLemmas.{taken_is}
 use Rattle.bdb_worlds.proofs.taking.read_taken.Goals as goal
 

@@ -2,9 +2,9 @@ use Rattle.std.proofs.Common.{◌≡◌, ◌∙◌, ◌*◌, sym, ap, subst, ref
 use Rattle.bdb_base.specs.Causes.{Rises}
 use Rattle.bdb_key.specs.Grammar.{IsNum}
 use Rattle.bdb_tables.specs.Grammar.{InGrammar}
+use Rattle.bdb_tables.proofs.Loops.{goes_then, counts_then}
 use Rattle.bdb_names.specs.Turned.{edge_set}
 use Rattle.bdb_worlds.proofs.OutsideLemmas.{SameButEdges, edges_itself, edges_then, edge_alone}
-use Rattle.bdb_worlds.proofs.StepsLemmas.{goes_then, falls_then}
 use Rattle.bdb_worlds.proofs.UserEdgeLemmas.{number_at, user_begins, user_more, user_ends}
 use Rattle.bdb_worlds.proofs.UserWriteLemmas.{edges_begin, edges_more, edges_end}
 use Rattle.bdb_worlds.specs.UserEdges.{AddsUser}
@@ -56,6 +56,6 @@ loop-preserved g c =
           (subst (λ n. Rises 2 n (g.K.Keeper.seen c.make_edge.new.keeper).writes) c.in-Ok-Some.ensures.writes c.in-Ok.ensures.writes);
       others = subst (SameButEdges t) (sym made) (edges_then t u (edge_set u None (Some 0) (c.in-Ok-Some.wid, c.args.uid)) c.loop.invariant.others (edge_alone u None (Some 0) (c.in-Ok-Some.wid, c.args.uid)));
       grammar = c.in-Ok.ensures.grammar (subst InGrammar (sym c.in-Ok-Some.ensures.kept) c.loop.invariant.grammar);
-      counts = falls_then _ _ _ c.loop.invariant.counts (falls_then _ _ _ c.in-Ok-Some.ensures.counts c.in-Ok.ensures.counts);
+      counts = counts_then _ _ _ c.loop.invariant.counts (counts_then _ _ _ c.in-Ok-Some.ensures.counts c.in-Ok.ensures.counts);
       goes_on = goes_then _ _ _ (goes_then _ _ _ c.loop.invariant.goes_on c.in-Ok-Some.ensures.steps.ok) c.in-Ok.ensures.steps.ok;
     }

@@ -1,7 +1,7 @@
 use Rattle.std.proofs.Common.{sym, subst}
 use Rattle.bdb_base.specs.Causes.{Rises}
 use Rattle.bdb_tables.specs.Grammar.{InGrammar}
-use Rattle.bdb_worlds.proofs.ReadLemmas.{edges_fit}
+use Rattle.bdb_tables.proofs.Held.{edges_fit}
 use Rattle.bdb_worlds.proofs.UserDropLemmas.{edge_absent, edge_present, rises_one}
 use Rattle.bdb_worlds.proofs.users.drop_user_edge.Goals as goal
 

@@ -1,7 +1,7 @@
 use Rattle.std.proofs.Common.{sym, subst, refl, rules, Some, None}
 use Rattle.bdb_key.specs.Grammar.{IsNum}
+use Rattle.bdb_tables.proofs.Loops.{goes_then, counts_then}
 use Rattle.bdb_worlds.proofs.OutsideLemmas.{SameButEdges, edges_itself, edges_then}
-use Rattle.bdb_worlds.proofs.StepsLemmas.{goes_then, falls_then}
 use Rattle.bdb_worlds.proofs.UserEdgeLemmas.{number_at}
 use Rattle.bdb_worlds.proofs.UserDropLemmas.{drop_begins, drop_more, drop_ends, edge_alone_dropped, dropped_begin, dropped_more, dropped_end, read_begin, read_more, read_end}
 use Rattle.bdb_worlds.specs.UserEdges.{DropsUser}
@@ -60,6 +60,6 @@ loop-preserved g c =
           c.in-Ok.ensures.counts.writes c.in-Ok.ensures.dropped c.loop.invariant.writes;
       others = edges_then old.kept here.kept now.kept c.loop.invariant.others (edge_alone_dropped here.kept mid now (wid, c.args.uid) c.in-Ok-Some.ensures.kept c.in-Ok.ensures.dropped);
       grammar = c.in-Ok.ensures.grammar;
-      counts = falls_then _ _ _ c.loop.invariant.counts (falls_then _ _ _ c.in-Ok-Some.ensures.counts c.in-Ok.ensures.counts);
+      counts = counts_then _ _ _ c.loop.invariant.counts (counts_then _ _ _ c.in-Ok-Some.ensures.counts c.in-Ok.ensures.counts);
       goes_on = goes_then _ _ _ (goes_then _ _ _ c.loop.invariant.goes_on c.in-Ok-Some.ensures.steps.ok) c.in-Ok.ensures.steps.ok;
     }

@@ -1,7 +1,7 @@
 use Rattle.std.proofs.Common.{subst, Some, None}
 use Rattle.bdb_tables.specs.Codec.{HasFirst}
 use Rattle.bdb_tables.specs.InUse.{depth_codec}
-use Rattle.bdb_worlds.proofs.ReadLemmas.{depths_fit}
+use Rattle.bdb_tables.proofs.Held.{depths_fit}
 use Rattle.bdb_worlds.proofs.UserEdgeLemmas.{number_from_low, number_none, number_some}
 use Rattle.bdb_worlds.proofs.users.next_number.Goals as goal
 

@@ -22,18 +22,18 @@ returns-in-Ok-run_lines-clause-served g c =
     let mid = g.K.Keeper.seen c.run_lines.new.keeper in
     let h = c.in-Ok-run_lines.ensures in
     let ran = c.in-Ok-run_lines.ran in
-    batch_serves (pieces c.args.lines.now) c.args.self.now _ (g.K.Keeper.seen c.args.keeper.now) run mid (g.K.Keeper.seen c.settle_batch.new.keeper) c.requires.still
+    batch_serves (pieces c.args.lines.now) c.args.self.now _ (g.K.Keeper.seen c.args.keeper.now) run mid (g.K.Keeper.seen c.close_batch.new.keeper) c.requires.still
     c.in-Ok.ensures (record { accepted = ran.accepted; refused = ran.refused; text = c.from_vec.result }) (record { goes = h.changing.steps.ok; counts = h.changing.counts })
     (λ s a. taken_run s (pieces c.args.lines.now) [] c.from_vec.result ran.accepted ran.refused c.args.self.now c.run_lines.new.self mid
     (run_as s (pieces c.args.lines.now) c.new-text.result.items c.run_lines.new.text.items c.from_vec.result ran.accepted ran.refused c.run_lines.new.self mid c.new-text.ensures.items
     c.from_vec.ensures (h.run s (subst (λ (k : Known). Agrees run.kept k s) (sym c.requires.copy) (copy_agrees run.kept c.args.self.now s a)))))
-    c.settle_batch.new.self c.settle_batch.result c.settle_batch.ensures
+    c.close_batch.new.self c.close_batch.result c.close_batch.ensures
 
 pub returns-in-Ok-run_lines-clause-lists : goal.returns-in-Ok-run_lines-clause-lists
 returns-in-Ok-run_lines-clause-lists g c =
     let run = g.K.Keeper.seen c.begin.new.keeper in
     let mid = g.K.Keeper.seen c.run_lines.new.keeper in
-    let new = g.K.Keeper.seen c.settle_batch.new.keeper in
+    let new = g.K.Keeper.seen c.close_batch.new.keeper in
     let h = c.in-Ok-run_lines.ensures in
     let ran = c.in-Ok-run_lines.ran in
     let told : BatchReply = record { accepted = ran.accepted; refused = ran.refused; text = c.from_vec.result } in
@@ -42,6 +42,6 @@ returns-in-Ok-run_lines-clause-lists g c =
     (run_as s (pieces c.args.lines.now) c.new-text.result.items c.run_lines.new.text.items c.from_vec.result ran.accepted ran.refused c.run_lines.new.self mid c.new-text.ensures.items
     c.from_vec.ensures (h.run s (subst (λ (k : Known). Agrees run.kept k s) (sym c.requires.copy) (copy_agrees run.kept c.args.self.now s a)))))
     (λ s a. copy_altered (pieces c.args.lines.now) c.args.self.now c.args.copy c.run_lines.new.self run ran c.requires.copy h.altered s a)
-    (undone_kept c.args.self.now c.run_lines.new.self (g.K.Keeper.seen c.args.keeper.now) run mid new told c.requires.still c.in-Ok.ensures h.changing.steps.ok c.settle_batch.new.self
-    c.settle_batch.result c.settle_batch.ensures)
-    c.settle_batch.new.self c.settle_batch.result c.settle_batch.ensures
+    (undone_kept c.args.self.now c.run_lines.new.self (g.K.Keeper.seen c.args.keeper.now) run mid new told c.requires.still c.in-Ok.ensures h.changing.steps.ok c.close_batch.new.self
+    c.close_batch.result c.close_batch.ensures)
+    c.close_batch.new.self c.close_batch.result c.close_batch.ensures

@@ -1,7 +1,7 @@
 use Rattle.bdb_session.specs.Machine.{bound_outcome}
 use Rattle.bdb_session.specs.Within.{learned}
-use Rattle.bdb_session.proofs.EndLemmas.{reads_settle, reads_stop, writes_settle, writes_stop, writes_unbegun}
-use Rattle.bdb_session.proofs.MovesLemmas.{moves_settle}
+use Rattle.bdb_session.proofs.EndLemmas.{reads_close, reads_stop, writes_close, writes_stop, writes_unbegun}
+use Rattle.bdb_session.proofs.MovesLemmas.{moves_close}
 use Rattle.bdb_session.proofs.OutcomeLemmas.{bound_counts}
 use Rattle.bdb_session.proofs.WithinLemmas.{begin_stops, step_stops, step_serves}
 use Rattle.bdb_session.proofs.session.Session.execute.Goals as goal
@@ -20,19 +20,19 @@ returns-in-Err-clause-writes g c =
 pub returns-in-Ok-step-clause-served : goal.returns-in-Ok-step-clause-served
 returns-in-Ok-step-clause-served g c =
     step_serves (λ s. bound_outcome s c.args.bound) (bound_counts c.args.bound) c.args.self.now (learned c.args.self.now c.step.new.news) (g.K.Keeper.seen c.args.keeper.now)
-    (g.K.Keeper.seen c.begin.new.keeper) (g.K.Keeper.seen c.step.new.keeper) (g.K.Keeper.seen c.settle.new.keeper) c.requires.still c.in-Ok.ensures c.in-Ok-step.told c.settle.new.self
-    c.settle.result c.in-Ok-step.ensures.told c.settle.ensures
+    (g.K.Keeper.seen c.begin.new.keeper) (g.K.Keeper.seen c.step.new.keeper) (g.K.Keeper.seen c.close.new.keeper) c.requires.still c.in-Ok.ensures c.in-Ok-step.told c.close.new.self
+    c.close.result c.in-Ok-step.ensures.told c.close.ensures
 
 pub returns-in-Ok-step-clause-reads : goal.returns-in-Ok-step-clause-reads
 returns-in-Ok-step-clause-reads g c =
-    reads_settle (learned c.args.self.now c.step.new.news) c.in-Ok-step.told c.args.self.now c.settle.new.self (g.K.Keeper.seen c.args.keeper.now) (g.K.Keeper.seen c.begin.new.keeper)
-    (g.K.Keeper.seen c.step.new.keeper) (g.K.Keeper.seen c.settle.new.keeper) c.in-Ok.ensures c.in-Ok-step.ensures.told.changing.steps.ok.last c.settle.result c.settle.ensures c.args.bound
+    reads_close (learned c.args.self.now c.step.new.news) c.in-Ok-step.told c.args.self.now c.close.new.self (g.K.Keeper.seen c.args.keeper.now) (g.K.Keeper.seen c.begin.new.keeper)
+    (g.K.Keeper.seen c.step.new.keeper) (g.K.Keeper.seen c.close.new.keeper) c.in-Ok.ensures c.in-Ok-step.ensures.told.changing.steps.ok.last c.close.result c.close.ensures c.args.bound
     c.in-Ok-step.ensures.reads
 
 pub returns-in-Ok-step-clause-writes : goal.returns-in-Ok-step-clause-writes
 returns-in-Ok-step-clause-writes g c =
-    writes_settle (learned c.args.self.now c.step.new.news) c.in-Ok-step.told c.args.self.now c.settle.new.self (g.K.Keeper.seen c.args.keeper.now) (g.K.Keeper.seen c.begin.new.keeper)
-    (g.K.Keeper.seen c.step.new.keeper) (g.K.Keeper.seen c.settle.new.keeper) c.in-Ok.ensures c.in-Ok-step.ensures.told.changing.steps.ok.last c.settle.result c.settle.ensures c.args.bound
+    writes_close (learned c.args.self.now c.step.new.news) c.in-Ok-step.told c.args.self.now c.close.new.self (g.K.Keeper.seen c.args.keeper.now) (g.K.Keeper.seen c.begin.new.keeper)
+    (g.K.Keeper.seen c.step.new.keeper) (g.K.Keeper.seen c.close.new.keeper) c.in-Ok.ensures c.in-Ok-step.ensures.told.changing.steps.ok.last c.close.result c.close.ensures c.args.bound
     c.in-Ok-step.ensures.writes
 
 pub returns-in-Err-step-clause-served : goal.returns-in-Err-step-clause-served
@@ -57,5 +57,5 @@ returns-in-Err-step-clause-remembers g c = λ t m. tt
 
 pub returns-in-Ok-step-clause-remembers : goal.returns-in-Ok-step-clause-remembers
 returns-in-Ok-step-clause-remembers g c =
-    moves_settle (λ s. bound_outcome s c.args.bound) c.args.self.now c.step.new.news (g.K.Keeper.seen c.args.keeper.now) (g.K.Keeper.seen c.begin.new.keeper) (g.K.Keeper.seen c.step.new.keeper)
-    (g.K.Keeper.seen c.settle.new.keeper) c.requires.still c.in-Ok.ensures c.in-Ok-step.told c.in-Ok-step.ensures.told c.in-Ok-step.ensures.change c.settle.new.self c.settle.result c.settle.ensures
+    moves_close (λ s. bound_outcome s c.args.bound) c.args.self.now c.step.new.news (g.K.Keeper.seen c.args.keeper.now) (g.K.Keeper.seen c.begin.new.keeper) (g.K.Keeper.seen c.step.new.keeper)
+    (g.K.Keeper.seen c.close.new.keeper) c.requires.still c.in-Ok.ensures c.in-Ok-step.told c.in-Ok-step.ensures.told c.in-Ok-step.ensures.change c.close.new.self c.close.result c.close.ensures

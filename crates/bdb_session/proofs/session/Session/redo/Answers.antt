@@ -2,7 +2,7 @@ use Rattle.std.proofs.Common.{◌≡◌, ◌∙◌, ◌<◌, ap, arith, length, 
 use Rattle.bdb_render.specs.declared.refusal.Refusal.TheVariants.{NoRedo}
 use Rattle.bdb_undo.specs.Timelines.{redone}
 use Rattle.bdb_session.specs.Known.{Known}
-use Rattle.bdb_session.proofs.UndoLemmas.{no_redo, nowhere, step_unwritten, redo_leads_somewhere, redo_settles}
+use Rattle.bdb_session.proofs.UndoLemmas.{no_redo, nowhere, step_unwritten, redo_leads_somewhere, redo_closes}
 use Rattle.bdb_session.proofs.session.Session.redo.Goals as goal
 
 pub returns-then-redos-eq0-clause-served : goal.returns-then-redos-eq0-clause-served
@@ -18,9 +18,9 @@ returns-in-Ok-redo_within-clause-served g c =
     let count = ap (λ (k : Known). length k.history.redos) (sym c.self.view_is) ∙ sym c.redos.ensures.count in
     let some = c.if-redos-eq0.false in
     omega (arith, some) in
-    redo_settles c.args.self.now c.redo_within.new.news (g.K.Keeper.seen c.args.keeper.now) (g.K.Keeper.seen c.begin.new.keeper) (g.K.Keeper.seen c.redo_within.new.keeper)
-    (g.K.Keeper.seen c.settle_forth.new.keeper) c.requires.still c.in-Ok.ensures c.requires.agrees c.in-Ok-redo_within.ensures.unchanged many c.in-Ok-redo_within.told
-    c.settle_forth.new.self c.settle_forth.result c.in-Ok-redo_within.ensures.told c.settle_forth.ensures
+    redo_closes c.args.self.now c.redo_within.new.news (g.K.Keeper.seen c.args.keeper.now) (g.K.Keeper.seen c.begin.new.keeper) (g.K.Keeper.seen c.redo_within.new.keeper)
+    (g.K.Keeper.seen c.close_forth.new.keeper) c.requires.still c.in-Ok.ensures c.requires.agrees c.in-Ok-redo_within.ensures.unchanged many c.in-Ok-redo_within.told
+    c.close_forth.new.self c.close_forth.result c.in-Ok-redo_within.ensures.told c.close_forth.ensures
 
 pub returns-in-Ok-redo_within-clause-unwritten : goal.returns-in-Ok-redo_within-clause-unwritten
 returns-in-Ok-redo_within-clause-unwritten g c =
@@ -28,8 +28,8 @@ returns-in-Ok-redo_within-clause-unwritten g c =
     let count = ap (λ (k : Known). length k.history.redos) (sym c.self.view_is) ∙ sym c.redos.ensures.count in
     let some = c.if-redos-eq0.false in
     omega (arith, some) in
-    step_unwritten redone NoRedo c.args.self.now c.settle_forth.new.self (g.K.Keeper.seen c.args.keeper.now) (g.K.Keeper.seen c.settle_forth.new.keeper) c.settle_forth.result
+    step_unwritten redone NoRedo c.args.self.now c.close_forth.new.self (g.K.Keeper.seen c.args.keeper.now) (g.K.Keeper.seen c.close_forth.new.keeper) c.close_forth.result
     c.requires.agrees (redo_leads_somewhere c.args.self.now (g.K.Keeper.seen c.args.keeper.now).kept many)
-    (redo_settles c.args.self.now c.redo_within.new.news (g.K.Keeper.seen c.args.keeper.now) (g.K.Keeper.seen c.begin.new.keeper) (g.K.Keeper.seen c.redo_within.new.keeper)
-    (g.K.Keeper.seen c.settle_forth.new.keeper) c.requires.still c.in-Ok.ensures c.requires.agrees c.in-Ok-redo_within.ensures.unchanged many c.in-Ok-redo_within.told
-    c.settle_forth.new.self c.settle_forth.result c.in-Ok-redo_within.ensures.told c.settle_forth.ensures)
+    (redo_closes c.args.self.now c.redo_within.new.news (g.K.Keeper.seen c.args.keeper.now) (g.K.Keeper.seen c.begin.new.keeper) (g.K.Keeper.seen c.redo_within.new.keeper)
+    (g.K.Keeper.seen c.close_forth.new.keeper) c.requires.still c.in-Ok.ensures c.requires.agrees c.in-Ok-redo_within.ensures.unchanged many c.in-Ok-redo_within.told
+    c.close_forth.new.self c.close_forth.result c.in-Ok-redo_within.ensures.told c.close_forth.ensures)

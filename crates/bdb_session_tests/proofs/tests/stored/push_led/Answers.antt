@@ -7,7 +7,7 @@ use Rattle.bdb_keep.specs.Tables.{Tables}
 use Rattle.bdb_worlds.specs.Holding.{HoldSome}
 use Rattle.bdb_catalog.specs.Bases.{StoresSome}
 use Rattle.bdb_catalog.specs.Opening.{IsPartOf}
-use Rattle.bdb_stored.proofs.CountingLemmas.{valid_in_grammar}
+use Rattle.bdb_catalog.proofs.OpeningLemmas.{some_grammar}
 use Rattle.bdb_session_tests.proofs.tests.stored.push_led.Goals as goal
 
 pub user_numbers-requires : goal.user_numbers-requires
@@ -24,7 +24,7 @@ worlds_in_order-requires-clause-users g c =
 pub resolve-requires-clause-grammar : goal.resolve-requires-clause-grammar
 resolve-requires-clause-grammar g c =
     let back = c.in_ok-worlds.ensures.read.kept ∙ c.in_ok-users.ensures.read.kept in
-    valid_in_grammar (g.K.Keeper.seen c.worlds_in_order.new.keeper).kept (subst StoresSome (sym back) (record { base = c.args.base.now; stores = c.requires.stored }))
+    some_grammar (g.K.Keeper.seen c.worlds_in_order.new.keeper).kept (subst StoresSome (sym back) (record { base = c.args.base.now; stores = c.requires.stored }))
 
 pub resolve-requires-clause-states : goal.resolve-requires-clause-states
 resolve-requires-clause-states g c =

@@ -1,5 +1,5 @@
 use Rattle.std.proofs.Common.{sym, subst}
-use Rattle.bdb_keep.specs.Held.{Held}
+use Rattle.bdb_memory.specs.Held.{Held}
 use Rattle.bdb_keep.specs.Tables.{LieInTables}
 use Rattle.bdb_keep.proofs.TableLemmas.{none_lie}
 use Rattle.bdb_sql.proofs.keeper.SqlKeeper.over.Goals as goal

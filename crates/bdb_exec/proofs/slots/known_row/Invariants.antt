@@ -1,7 +1,0 @@
-use Rattle.std.proofs.Common.{◌≡◌, ◌++◌, drop}
-use Rattle.std.specs.Option.{option_map}
-use Rattle.bdb_queries.specs.Slots.{known_row}
-use Rattle.bdb_exec.proofs.slots.known_row.Given as goal
-
-abbrev pub invariant-loop-r : goal.invariant-loop-r
-invariant-loop-r l = known_row l.slots l.take ≡ option_map (λ vs. l.row ++ vs) (known_row l.slots (drop l.r-index l.take))

@@ -1,5 +1,0 @@
-use Rattle.bdb_keep.proofs.HeadsLemmas.{head_of_entry}
-use Rattle.bdb_keep.proofs.entry.Entry.head.Goals as goal
-
-pub returns : goal.returns
-returns c = head_of_entry c.head_with.result _ _ _ c.args.self.now c.head_with.ensures c.self.view_is c.self.invariant.0

@@ -1,6 +1,0 @@
-use Rattle.std.proofs.Common.{rules, ap}
-use Rattle.bdb_keep.proofs.TableLemmas.{sound_by}
-use Rattle.bdb_keep.proofs.ledger.Ledger.get.Goals as goal
-
-pub invariant_of-self-in-Err : goal.invariant_of-self-in-Err
-invariant_of-self-in-Err c = sound_by _ _ _ (ap (λ h. h.kept) c.get.ensures.same) (ap (λ h. h.last) c.get.ensures.same) c.self.invariant.kept c.self.invariant.last (search rules)

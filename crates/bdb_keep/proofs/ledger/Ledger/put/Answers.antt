@@ -1,6 +1,0 @@
-use Rattle.std.proofs.Common.{rules}
-use Rattle.bdb_keep.proofs.TableLemmas.{put_lies, sound_by}
-use Rattle.bdb_keep.proofs.ledger.Ledger.put.Goals as goal
-
-pub invariant_of-self : goal.invariant_of-self
-invariant_of-self c = sound_by _ _ _ c.in-Ok.ensures.kept c.put.ensures.last (put_lies _ c.args.tab c.args.key.now c.args.row.now c.requires.table c.self.invariant.kept) c.self.invariant.last (search rules)

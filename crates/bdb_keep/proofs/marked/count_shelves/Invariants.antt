@@ -1,7 +1,0 @@
-use Rattle.std.proofs.Common.{◌≡◌, take}
-use Rattle.bdb_keep.specs.Blocks.{joined}
-use Rattle.bdb_keep.specs.Tallies.{count_among}
-use Rattle.bdb_keep.proofs.marked.count_shelves.Given as goal
-
-abbrev pub invariant-loop-shelf : goal.invariant-loop-shelf
-invariant-loop-shelf l = l.count ≡ count_among l.tab l.end l.number (joined (take l.shelf-index l.shelves))

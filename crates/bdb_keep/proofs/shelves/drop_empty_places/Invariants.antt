@@ -1,6 +1,0 @@
-use Rattle.std.proofs.Common.{◌≡◌, ◌++◌, map, take, drop}
-use Rattle.bdb_keep.specs.Blocks.{without_empty}
-use Rattle.bdb_keep.proofs.shelves.drop_empty_places.Given as goal
-
-abbrev pub invariant-loop-shelf : goal.invariant-loop-shelf
-invariant-loop-shelf l = l.shelf-items ≡ map without_empty (take l.shelf-index l.fn.shelves.items) ++ drop l.shelf-index l.fn.shelves.items

@@ -1,6 +1,0 @@
-use Rattle.std.proofs.Common.{rules}
-use Rattle.bdb_keep.proofs.TallySteps.{tally-empty}
-use Rattle.bdb_keep.proofs.tally.Tally.new.Goals as goal
-
-pub returns : goal.returns
-returns c = tally-empty _ (search rules) (search rules)

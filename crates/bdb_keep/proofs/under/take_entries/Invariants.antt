@@ -1,6 +1,0 @@
-use Rattle.std.proofs.Common.{◌≡◌, ◌++◌, take}
-use Rattle.bdb_keep.specs.Spans.{entries_under}
-use Rattle.bdb_keep.proofs.under.take_entries.Given as goal
-
-abbrev pub invariant-loop-entry : goal.invariant-loop-entry
-invariant-loop-entry l = l.span ≡ l.fn.span ++ entries_under l.opening (take l.entry-index l.entries)

@@ -1,0 +1,15 @@
+use Rattle.std.proofs.Common.{◌≡◌, Bool, true, false, not, refl, sym, ap, ◌∙◌, subst, rules}
+use Rattle.std.specs.Prelude.{filter}
+use Rattle.std.proofs.lemmas.Fn.{filter_same}
+use Rattle.bdb_memory.specs.Blocks.{joined, HaveEntries, has_any}
+use Rattle.bdb_memory.proofs.BlocksLemmas.{joined-full, full-filter}
+use Rattle.bdb_memory.proofs.blocks.drop_empty_blocks.Goals as goal
+
+not_not : (b : Bool) → not (not b) ≡ b
+not_not true = refl
+not_not false = refl
+
+pub returns : goal.returns
+returns c =
+    let e : c.retain.new.self.items ≡ filter has_any c.args.blocks.now.items = filter_same _ has_any _ (λ x b f' t. search (rules, not_not)) c.args.blocks.now.items c.retain.new.self.items c.retain.ensures.filtered in
+    record { same = ap joined e ∙ joined-full c.args.blocks.now.items; full = subst HaveEntries (sym e) (full-filter c.args.blocks.now.items) }

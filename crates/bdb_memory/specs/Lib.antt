@@ -1,0 +1,15 @@
+pub mod Blocks
+pub mod Calm
+pub mod Changes
+pub mod Entries
+pub mod Heads
+pub mod Held
+pub mod Openings
+pub mod Places
+pub mod RowBytes
+pub mod Shelves
+pub mod Struck
+pub mod Tails
+pub mod Tallies
+pub mod Told
+pub mod Under

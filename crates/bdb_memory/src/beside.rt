@@ -1,0 +1,127 @@
+// Finding and changing places beside the cursor that was set last. In work in the order of the places this is where they are, and no
+// shelf is looked for.
+ghost use Rattle.std.specs.Prelude.{◌≡◌, ◌<◌, ◌≤◌, true, Some, None, IfOk, IfErr, IfSome, IfNone, OnOk, OnErr, OnSome, length};
+ghost use Prim.Native.Nat.{suc};
+ghost use Rattle.std.specs.Option.{option_copied};
+ghost use Rattle.bdb_memory.specs.Entries.{place_at, row_of, IsSetAt};
+ghost use Rattle.bdb_memory.specs.Blocks.{joined, AreSorted};
+ghost use Rattle.bdb_memory.specs.Shelves.{IsFirstRow};
+
+use crate::cursors::Cursor;
+use crate::entry::Entry;
+use crate::row::Row;
+use crate::shelf::Shelf;
+use crate::shelves::shelf_at;
+use crate::words::Probe;
+use std::alloc::{AllocError, Global};
+
+/// Where a place stands or would stand, and the row there, if there is one. None where it isn't beside the cursor.
+#[inline(always)]
+pub fn row_beside<'a>(
+    shelves: &'a [Shelf],
+    cursor: Cursor,
+    probe: &Probe<'_>,
+) -> Option<(Cursor, Option<&'a [u8]>)>
+    requires { AreSorted shelves.now }
+    ensures { IfSome result
+        (λ found. option_copied found.1 ≡ row_of (place_at (joined shelves.now) probe.now)) }
+{
+    let (at, spot) = cursor;
+    if at >= shelves.len() {
+        return None;
+    }
+    match shelf_at(shelves, at).row_beside(spot, probe) {
+        Some((spot, row)) => Some(((at, spot), row)),
+        None => None,
+    }
+}
+
+/// Where the first place stands that has a row and isn't below the one that is looked for, and its entry. None where it isn't beside
+/// the cursor.
+#[inline(always)]
+pub fn first_row_beside<'a>(
+    shelves: &'a [Shelf],
+    cursor: Cursor,
+    probe: &Probe<'_>,
+) -> Option<(Cursor, &'a Entry)>
+    requires { AreSorted shelves.now }
+    ensures { IfSome result (λ first. IsFirstRow (joined shelves.now) probe.now first.1.now) }
+{
+    let (at, spot) = cursor;
+    if at >= shelves.len() {
+        return None;
+    }
+    match shelf_at(shelves, at).first_row_beside(spot, probe) {
+        Some((spot, entry)) => Some(((at, spot), entry)),
+        None => None,
+    }
+}
+
+/// Puts what stands at a place, and answers where, and what stood there. The answer is the new row where no such place is beside the
+/// cursor.
+#[inline(always)]
+pub fn swap_beside(
+    shelves: &mut Vec<Shelf>,
+    cursor: Cursor,
+    probe: &Probe<'_>,
+    row: Option<Row>,
+) -> Result<(Cursor, Option<Row>), Option<Row>>
+    requires { AreSorted shelves.old.items }
+    ensures sorted { AreSorted shelves.new.items }
+    ensures found { IfOk result (λ before. place_at (joined shelves.old.items) probe.now
+        ≡ Some before.1) }
+    ensures set { OnOk result (IsSetAt (joined shelves.old.items) (joined shelves.new.items)
+        probe.now (Some row)) }
+    ensures back { IfErr result (λ back. back ≡ row) }
+    ensures same { OnErr result (joined shelves.new.items ≡ joined shelves.old.items) }
+{
+    let (at, spot) = cursor;
+    if at >= shelves.len() {
+        return Err(row);
+    }
+    match shelves[at].swap_beside(spot, probe, row) {
+        Ok((spot, before)) => Ok(((at, spot), before)),
+        Err(row) => Err(row),
+    }
+}
+
+/// Puts a row at a place, which may be new, and answers where, and what stood there: at Some what the place had, at None nothing. None
+/// where the place isn't beside the cursor.
+#[inline(always)]
+pub fn insert_beside(
+    alloc: Global,
+    shelves: &mut Vec<Shelf>,
+    cursor: Cursor,
+    probe: &Probe<'_>,
+    row: &[u8],
+) -> Result<Option<(Cursor, Option<Option<Row>>)>, AllocError>
+    requires { AreSorted shelves.old.items }
+    ensures sorted { AreSorted shelves.new.items }
+    ensures found { IfOk result (λ put. IfSome put
+        (λ before. place_at (joined shelves.old.items) probe.now ≡ before.1)) }
+    ensures set { IfOk result (λ put. OnSome put (IsSetAt (joined shelves.old.items)
+        (joined shelves.new.items) probe.now (Some (Some row.now)))) }
+    ensures none { IfOk result
+        (λ put. IfNone put (joined shelves.new.items ≡ joined shelves.old.items)) }
+    ensures err { OnErr result (joined shelves.new.items ≡ joined shelves.old.items) }
+{
+    let (at, spot) = cursor;
+    if at >= shelves.len() {
+        return Ok(None);
+    }
+    let is_last = is_last_shelf(shelves, at);
+    match shelves[at].insert_beside(alloc, spot, is_last, probe, row) {
+        Ok(Some((spot, before))) => Ok(Some(((at, spot), before))),
+        Ok(None) => Ok(None),
+        Err(error) => Err(error),
+    }
+}
+
+/// Whether there is no shelf behind this one.
+#[inline(always)]
+pub fn is_last_shelf(shelves: &[Shelf], at: usize) -> bool
+    requires { at < length shelves.now }
+    ensures { result ≡ true → length shelves.now ≤ suc at }
+{
+    at + 1 >= shelves.len()
+}
