@@ -2,6 +2,7 @@
 use crate::tests::{Left, listed, ran_from};
 use bdb_base::Txt;
 use bdb_io::MemSource;
+use bdb_samples::words_of;
 use bdb_top::job_of;
 use std::alloc::Global;
 use std::test::Fail;
