@@ -1,5 +1,5 @@
 // Runs of which a device fails, over a worked script, and how they end.
-ghost use Rattle.std.specs.Prelude.{◌≡◌, false, IfOk};
+ghost use Rattle.std.specs.Prelude.{◌≡◌, ◌≤◌, false, IfOk};
 
 mod copying;
 mod cuts;
@@ -171,7 +171,9 @@ fn left_by_write(alloc: Global, script: &[u8], write: u32) -> Result<Left, Fail>
 }
 
 /// What a script leaves of which this read fails, where a read gives so many bytes.
-fn left_by_read(alloc: Global, script: &[u8], step: usize, read: u32) -> Result<Left, Fail> {
+fn left_by_read(alloc: Global, script: &[u8], step: usize, read: u32) -> Result<Left, Fail>
+    requires step { 1 ≤ step }
+{
     let text = Vec::from_slice(alloc, script)?;
     let source = MemSource::new(text, step, only(alloc, read)?);
     ran_with(alloc, source, quiet_sink(alloc)?, quiet_keeper(alloc))
