@@ -11,7 +11,7 @@ use Rattle.bdb_base.proofs.BoolLemmas.{not_twice}
 use Rattle.bdb_keep.specs.Tables.{Tables}
 use Rattle.bdb_tables.specs.Differences.{AreDifferences}
 use Rattle.bdb_tables.proofs.DifferenceLemmas.{is_among, no_more, distinct_append}
-use Rattle.bdb_val.specs.Others.{SameBut, is_in}
+use Rattle.bdb_val.specs.Others.{SamePlacesBut, is_in}
 use Rattle.bdb_update.specs.Bounds.{part_at}
 use Rattle.bdb_update.specs.Tallies.{HasRowCount, vals_at, nothing_at}
 use Rattle.bdb_update.proofs.TallyLemmas.{Places, rows_alone, filter_parts, filter_distinct, among_passing, all_filter, all_of, all_weaker, all_among, length_append, same_row, same_row_is, same_row_from}
@@ -126,7 +126,7 @@ row_differences t u ps d =
     differences_like (part_at (is_in rows_alone) t) (part_at (is_in rows_alone) u) (vals_at t) (vals_at u) (filter (is_in rows_alone) ps) (vals_part t) (vals_part u)
     (part_differences (is_in rows_alone) t u ps d)
 
-pub rows_whole : (t u : Tables) (ps : Places) → SameBut rows_alone t u → AreDifferences (vals_at t) (vals_at u) ps → AreDifferences (tables.get t) (tables.get u) ps
+pub rows_whole : (t u : Tables) (ps : Places) → SamePlacesBut rows_alone t u → AreDifferences (vals_at t) (vals_at u) ps → AreDifferences (tables.get t) (tables.get u) ps
 rows_whole t u ps same d =
     whole_differences (is_in rows_alone) t u ps same
     (differences_like (vals_at t) (vals_at u) (part_at (is_in rows_alone) t) (part_at (is_in rows_alone) u) ps (λ q. sym (vals_part t q)) (λ q. sym (vals_part u q)) d)

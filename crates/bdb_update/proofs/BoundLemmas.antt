@@ -5,7 +5,7 @@ use Rattle.std.proofs.lemmas.Nat.{mul-le}
 use Rattle.bdb_keep.specs.Seen.{Seen}
 use Rattle.bdb_keep.specs.Tables.{Tables}
 use Rattle.bdb_tables.specs.Differences.{AreDifferences}
-use Rattle.bdb_val.specs.Others.{SameBut, is_in}
+use Rattle.bdb_val.specs.Others.{SamePlacesBut, is_in}
 use Rattle.bdb_worlds.specs.Bounds.{EndsWithin}
 use Rattle.bdb_update.specs.Bounds.{WritesWithin, StateWrites, RowWrites, is_of_states, part_at}
 use Rattle.bdb_update.specs.Joining.{is_of_tuples}
@@ -20,13 +20,13 @@ apart_from : (q : List ℕ) → is_of_states q ≡ true → (is_in is_of_tuples 
 apart_from [] e = (refl, refl)
 apart_from (n ∷ k) e = or_parts (is_of_tuples n) (nat_eq n 11) (not-true (is_of_tuples n || nat_eq n 11) e)
 
-pub states_over_rows : (t u : Tables) → SameBut rows_alone t u → (q : List ℕ) → part_at is_of_states u q ≡ part_at is_of_states t q
+pub states_over_rows : (t u : Tables) → SamePlacesBut rows_alone t u → (q : List ℕ) → part_at is_of_states u q ≡ part_at is_of_states t q
 states_over_rows t u same = part_same is_of_states t u (λ q e. same q (apart_from q e).1)
 
-pub states_over_tuples : (t u : Tables) → SameBut is_of_tuples t u → (q : List ℕ) → part_at is_of_states u q ≡ part_at is_of_states t q
+pub states_over_tuples : (t u : Tables) → SamePlacesBut is_of_tuples t u → (q : List ℕ) → part_at is_of_states u q ≡ part_at is_of_states t q
 states_over_tuples t u same = part_same is_of_states t u (λ q e. same q (apart_from q e).0)
 
-rows_over_tuples : (t u : Tables) → SameBut is_of_tuples t u → (q : List ℕ) → vals_at u q ≡ vals_at t q
+rows_over_tuples : (t u : Tables) → SamePlacesBut is_of_tuples t u → (q : List ℕ) → vals_at u q ≡ vals_at t q
 rows_over_tuples t u same = vals_same t u (λ k. same (11 ∷ k) refl)
 
 -- no place of states is a row's
@@ -45,7 +45,7 @@ fits d states rows places l =
 -- ---- a statement is added: worlds come with so many rows, its tuple gets a number, and its row is put and its group settled
 
 module _ (d rows : ℕ) (old a b new : Seen) (first : StateWrites (d + 2) rows old a) (second : EndsWithin 2 a.writes b.writes) (third : RowWrites 2 b new)
-    (tuples : SameBut is_of_tuples a.kept b.kept) (alone : SameBut rows_alone b.kept new.kept) (later : a.writes ≤ b.writes) (last : b.writes ≤ new.writes) (n m z : ℕ)
+    (tuples : SamePlacesBut is_of_tuples a.kept b.kept) (alone : SamePlacesBut rows_alone b.kept new.kept) (later : a.writes ≤ b.writes) (last : b.writes ≤ new.writes) (n m z : ℕ)
     (n_rows : HasRowCount old.kept n) (m_rows : HasRowCount a.kept m) (z_rows : HasRowCount new.kept z) (came : m ≡ n + rows)
     (one : (p q : List ℕ) → IsLost (vals_at old.kept) (vals_at a.kept) (vals_at new.kept) p → IsLost (vals_at old.kept) (vals_at a.kept) (vals_at new.kept) q → p ≡ q) where
   pub adds_within : WritesWithin (d + 2) 8 old new
@@ -73,7 +73,7 @@ module _ (d rows : ℕ) (old a b new : Seen) (first : StateWrites (d + 2) rows o
 -- ---- a statement is taken away: its row goes and its group is settled, worlds go with so many rows, and a number goes
 
 module _ (d rows : ℕ) (old a b new : Seen) (first : RowWrites 2 old a) (second : StateWrites (d + 2) rows a b) (third : EndsWithin 2 b.writes new.writes)
-    (alone : SameBut rows_alone old.kept a.kept) (tuples : SameBut is_of_tuples b.kept new.kept) (later : a.writes ≤ b.writes) (last : b.writes ≤ new.writes) (n m z : ℕ)
+    (alone : SamePlacesBut rows_alone old.kept a.kept) (tuples : SamePlacesBut is_of_tuples b.kept new.kept) (later : a.writes ≤ b.writes) (last : b.writes ≤ new.writes) (n m z : ℕ)
     (n_rows : HasRowCount old.kept n) (m_rows : HasRowCount a.kept m) (z_rows : HasRowCount b.kept z) (went : m ≡ z + rows)
     (one : (p q : List ℕ) → IsLost (vals_at old.kept) (vals_at a.kept) (vals_at b.kept) p → IsLost (vals_at old.kept) (vals_at a.kept) (vals_at b.kept) q → p ≡ q) where
   pub drops_within : WritesWithin (d + 2) 8 old new

@@ -9,7 +9,7 @@ use Rattle.bdb_keep.specs.Tables.{Tables}
 use Rattle.bdb_tables.specs.Names.{path_of}
 use Rattle.bdb_tables.specs.Rows.{row_for}
 use Rattle.bdb_tables.specs.Stored.{SameBut}
-use Rattle.bdb_val.specs.Others as others
+use Rattle.bdb_val.specs.Others.{SamePlacesBut}
 use Rattle.bdb_worlds.specs.Bounds.{EndsWithin}
 use Rattle.bdb_update.specs.Bounds.{RowWrites, StateWrites, WritesWithin}
 use Rattle.bdb_update.specs.Keeping.{KeepsNames, KeepsTuples}
@@ -26,7 +26,7 @@ use Rattle.bdb_update.proofs.StoredCounts.{over_count, over_few, stored_count}
 use Rattle.bdb_update.proofs.TallyLemmas.{rows_alone}
 use Rattle.bdb_update.proofs.WithinLemmas.{drop_is_within}
 
-pub as_tables : (test : ℕ → Bool) (t u : Tables) → others.SameBut test t u → SameBut test t u
+pub as_tables : (test : ℕ → Bool) (t u : Tables) → SamePlacesBut test t u → SameBut test t u
 as_tables test t u same n k out = same (n ∷ k) out
 
 -- ---- a statement joins a base
@@ -34,8 +34,8 @@ as_tables test t u same n k out = same (n ∷ k) out
 module _ (old a b new : Seen) (x : Stmt) (worlds wid rows : ℕ) (some : SomeMayJoin old.kept x worlds)
     (arrive : Arrive old.kept a.kept x wid) (came : CountsArrived old.kept a.kept x rows) (names : KeepsNames old.kept a.kept) (of_worlds : SameBut is_of_worlds old.kept a.kept)
     (first : StateWrites (length x.path + 2) rows old a)
-    (numbers : Numbers a.kept b.kept x) (keeps : KeepsTuples a.kept b.kept) (second : EndsWithin 2 a.writes b.writes) (tuples : others.SameBut is_of_tuples a.kept b.kept)
-    (settles : Settles b.kept new.kept x) (third : RowWrites 2 b new) (alone : others.SameBut rows_alone b.kept new.kept) (later : a.writes ≤ b.writes) (last : b.writes ≤ new.writes) where
+    (numbers : Numbers a.kept b.kept x) (keeps : KeepsTuples a.kept b.kept) (second : EndsWithin 2 a.writes b.writes) (tuples : SamePlacesBut is_of_tuples a.kept b.kept)
+    (settles : Settles b.kept new.kept x) (third : RowWrites 2 b new) (alone : SamePlacesBut rows_alone b.kept new.kept) (later : a.writes ≤ b.writes) (last : b.writes ≤ new.writes) where
   pub join_within : WritesWithin (length x.path + 2) 8 old new
   join_within =
       let c = some.base in
@@ -54,10 +54,10 @@ module _ (old a b new : Seen) (x : Stmt) (worlds wid rows : ℕ) (some : SomeMay
 -- ---- a statement leaves a base
 
 module _ (old a b new : Seen) (x : Stmt) (rows : ℕ) (some : SomeMayPart old.kept x)
-    (parts : Parts old.kept a.kept x) (first : RowWrites 2 old a) (alone : others.SameBut rows_alone old.kept a.kept)
+    (parts : Parts old.kept a.kept x) (first : RowWrites 2 old a) (alone : SamePlacesBut rows_alone old.kept a.kept)
     (loses : LosesWorlds a.kept b.kept x) (went : LosesRows a.kept b.kept rows) (names : KeepsNames b.kept a.kept) (of_worlds : SameBut is_of_worlds a.kept b.kept)
     (second : StateWrites (length x.path + 2) rows a b)
-    (third : EndsWithin 2 b.writes new.writes) (tuples : others.SameBut is_of_tuples b.kept new.kept) (later : a.writes ≤ b.writes) (last : b.writes ≤ new.writes) where
+    (third : EndsWithin 2 b.writes new.writes) (tuples : SamePlacesBut is_of_tuples b.kept new.kept) (later : a.writes ≤ b.writes) (last : b.writes ≤ new.writes) where
   pub leave_within : WritesWithin (length x.path + 2) 8 old new
   leave_within =
       let c = some.base in

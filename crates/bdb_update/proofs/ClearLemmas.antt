@@ -9,7 +9,7 @@ use Rattle.bdb_tables.specs.Marks.{Mark}
 use Rattle.bdb_tables.specs.Writes.{Gives}
 use Rattle.bdb_val.specs.Reads.{HaveTuples}
 use Rattle.bdb_val.specs.Counts.{TellsDifferences}
-use Rattle.bdb_val.specs.Others as others
+use Rattle.bdb_val.specs.Others.{SamePlacesBut}
 use Rattle.bdb_val.specs.Steps.{IsChanging, counted}
 use Rattle.bdb_val.specs.WorldCopies.{ClearsWorld, rows_cleared}
 use Rattle.bdb_val.proofs.Calls.{HasGone, gone_then, gone_changing}
@@ -29,7 +29,7 @@ push_cleared f (m ∷ ns) n = push_cleared (rows_cleared f m) ns n
 -- the first worlds have lost their rows
 pub record IsClearing (old now : Seen) (wids : List ℕ) (k count : ℕ) : Type 0 where
   pub gone : HasGone old now
-  pub alone : others.SameBut rows_alone old.kept now.kept
+  pub alone : SamePlacesBut rows_alone old.kept now.kept
   pub others : SameBut rows_alone old.kept now.kept
   pub grammar : InGrammar now.kept
   pub tuples : HaveTuples now.kept
@@ -41,7 +41,7 @@ pub clearing_begins : (old : Seen) (wids : List ℕ) → InGrammar old.kept → 
 clearing_begins old wids g h = record { gone = gone_itself old; others = λ n q out. refl; grammar = g; tuples = h; cleared = λ f g. g; rows = λ f g n c l. record { left = n; rows = c; balance = omega arith }; alone = λ q out. refl; writes = λ small. omega arith }
 
 pub clearing_more : {E : Type 0} (old now new : Seen) (wids : List ℕ) (k n count gone more : ℕ) (fault : E) → IsClearing old now wids k count → k < length wids → n ≡ get_or wids k 0 → more ≡ counted (count + gone)
-    → ClearsWorld now.kept new.kept n → others.SameBut rows_alone now.kept new.kept → TellsDifferences now new 0 gone → Rises gone now.writes new.writes → InGrammar new.kept → HaveTuples new.kept → IsChanging {T = ℕ} {E = E} now new (Ok gone) fault
+    → ClearsWorld now.kept new.kept n → SamePlacesBut rows_alone now.kept new.kept → TellsDifferences now new 0 gone → Rises gone now.writes new.writes → InGrammar new.kept → HaveTuples new.kept → IsChanging {T = ℕ} {E = E} now new (Ok gone) fault
     → IsClearing old new wids (k + 1) more
 clearing_more old now new wids k n count gone more fault c lt e sum cleared same tells written grammar tuples changing = record {
   gone = gone_then old now new c.gone (gone_changing now new gone fault changing);

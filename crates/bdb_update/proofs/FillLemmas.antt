@@ -22,7 +22,7 @@ use Rattle.bdb_tables.specs.Names.{Names, AreNames, path_of, number_of, is_named
 use Rattle.bdb_tables.specs.Rows.{HoldsRows, has_key, row_named, row_for}
 use Rattle.bdb_tables.proofs.WriteLemmas.{gives_same}
 use Rattle.bdb_val.specs.Settled.{HasStates}
-use Rattle.bdb_val.specs.Others as others
+use Rattle.bdb_val.specs.Others.{SamePlacesBut}
 use Rattle.bdb_val.specs.WorldCopies.{TellsCopy, CopiesWorld, inherited_or, key_in, rows_copied}
 use Rattle.bdb_val.specs.Reads.{HaveTuples}
 use Rattle.bdb_val.specs.Steps.{IsChanging, counted as capped}
@@ -169,7 +169,7 @@ rows_alone n = nat_eq n 11
 -- so many of the worlds have their rows, and these are so many more
 pub record IsFilling (old now : Seen) (wids : List ℕ) (k count : ℕ) : Type 0 where
   pub gone : HasGone old now
-  pub alone : others.SameBut rows_alone old.kept now.kept
+  pub alone : SamePlacesBut rows_alone old.kept now.kept
   pub others : SameBut rows_alone old.kept now.kept
   pub grammar : InGrammar now.kept
   pub tuples : HaveTuples now.kept
@@ -202,7 +202,7 @@ has_link old now wids k n count f lt e some =
     ap is_some (f.others 7 (num_bytes n) refl) ∙ link_there some.before old.kept (take k wids) (drop (k + 1) wids) n c
 
 module _ {T E : Type 0} (old now new : Seen) (wids : List ℕ) (k n count rows more : ℕ) (x : T) (fault : E) (f : IsFilling old now wids k count) (lt : k < length wids) (e : n ≡ get_or wids k 0)
-    (filled : IsFilled now.kept new.kept n) (tells : TellsCopy now new n rows) (alone : others.SameBut rows_alone now.kept new.kept) (written : Rises rows now.writes new.writes) (sum : more ≡ capped (count + rows))
+    (filled : IsFilled now.kept new.kept n) (tells : TellsCopy now new n rows) (alone : SamePlacesBut rows_alone now.kept new.kept) (written : Rises rows now.writes new.writes) (sum : more ≡ capped (count + rows))
     (grammar : InGrammar new.kept) (tuples : HaveTuples new.kept) (changing : IsChanging {T = T} {E = E} now new (Ok x) fault) where
   abbrev xs : List ℕ
   xs = take k wids

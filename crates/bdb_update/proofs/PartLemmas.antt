@@ -20,7 +20,7 @@ use Rattle.bdb_tables.specs.Writes.{with_change, with_row_at}
 use Rattle.bdb_tables.proofs.Fitting.{belonging_may_be}
 use Rattle.bdb_val.specs.Counts.{TellsDifferences}
 use Rattle.bdb_val.specs.Groups.{IsUnsettled, SettlesGroup, TellsGroup}
-use Rattle.bdb_val.specs.Others as others
+use Rattle.bdb_val.specs.Others.{SamePlacesBut}
 use Rattle.bdb_val.specs.Reads.{HaveTuples, is_of_group}
 use Rattle.bdb_val.specs.Settling.{row_key}
 use Rattle.bdb_val.specs.declared.stored.Settled.{Settled}
@@ -121,7 +121,7 @@ module _ (t : Tables) (mid new : Seen) (x : Stmt) (wid tid : ℕ) (key : List Va
 -- it balances the numbers of rows
 module _ (t : Tables) (mid new : Seen) (x : Stmt) (wid tid : ℕ) (key : List Value) (s : Settled) (first : IsKeyIn t x.tuple key)
     (taken : mid.kept ≡ row_taken t x wid tid key)
-    (tells : TellsGroup mid new wid x.tuple.rel key s) (same : others.SameBut (λ n. nat_eq n 11) mid.kept new.kept)
+    (tells : TellsGroup mid new wid x.tuple.rel key s) (same : SamePlacesBut (λ n. nat_eq n 11) mid.kept new.kept)
     (world : IsWorld t x.path wid) (fits : IsTupleRow x.tuple) (has : HasAt tuple_ix_codec t x.tuple (Some tid)) where
   pub parted_rows : PartsRows t new.kept x s.put s.taken
   parted_rows b h may n m a z ln lm =

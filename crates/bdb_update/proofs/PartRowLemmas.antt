@@ -21,7 +21,7 @@ use Rattle.bdb_tables.specs.Writes.{Gives, with_change}
 use Rattle.bdb_tables.proofs.DifferenceLemmas.{is_among}
 use Rattle.bdb_tables.proofs.WriteLemmas.{get_after_change}
 use Rattle.bdb_val.specs.Counts.{TellsDifferences}
-use Rattle.bdb_val.specs.Others as others
+use Rattle.bdb_val.specs.Others.{SamePlacesBut}
 use Rattle.bdb_val.specs.WorldCopies.{rows_cleared}
 use Rattle.bdb_update.specs.Parting.{HasRowsLess}
 use Rattle.bdb_update.specs.Tallies.{HasRowCount, vals_at, nothing_at}
@@ -179,7 +179,7 @@ there_too t u f wid g h (n ∷ j) e = elim (cases_Bool (nat_eq n 11)) [
         absurd (false≢true (sym (ap is_some b) ∙ ap is_some (ap (tables.get t) (sym spelled) ∙ g.rows entry.key entry.key_reads.fits) ∙ bytes (f entry.key) s))
 
 pub world_rows_less : (old new : Seen) (f : ValKey → Option Mark) (wid n gone : ℕ) → Gives val_codec old.kept f → Gives val_codec new.kept (rows_cleared f wid) → HasRowCount old.kept n → n < 2 ^ 64 - 1
-    → others.SameBut (λ m. nat_eq m 11) old.kept new.kept → TellsDifferences old new 0 gone → HasRowsLess new.kept n gone
+    → SamePlacesBut (λ m. nat_eq m 11) old.kept new.kept → TellsDifferences old new 0 gone → HasRowsLess new.kept n gone
 world_rows_less old new f wid n gone g h c l same tells =
     let test : List ℕ → Bool = λ q. is_some (vals_at new.kept q) in
     let left = length (filter test c.places) in

@@ -21,7 +21,7 @@ use Rattle.bdb_tables.specs.Writes.{with_change, with_row_at}
 use Rattle.bdb_tables.proofs.Fitting.{belonging_may_be}
 use Rattle.bdb_val.specs.Counts.{TellsDifferences}
 use Rattle.bdb_val.specs.Groups.{IsUnsettled, SettlesGroup, TellsGroup}
-use Rattle.bdb_val.specs.Others as others
+use Rattle.bdb_val.specs.Others.{SamePlacesBut}
 use Rattle.bdb_val.specs.Steps.{counted as capped}
 use Rattle.bdb_val.specs.declared.stored.Settled.{Settled}
 use Rattle.bdb_val.specs.Reads.{HaveTuples, is_of_group}
@@ -119,7 +119,7 @@ module _ (t : Tables) (mid new : Seen) (x : Stmt) (wid tid : ℕ) (key : List Va
 
 module _ (t : Tables) (mid new : Seen) (x : Stmt) (wid tid : ℕ) (key : List Value) (stood : Bool) (s : Settled) (first : IsKeyIn t x.tuple key) (put : mid.kept ≡ row_put t x wid tid key)
     (had : stood ≡ is_some (tables.get t (place val_codec (key_made x wid tid key)))) (settles : SettlesGroup mid.kept new.kept wid x.tuple.rel key)
-    (tells : TellsGroup mid new wid x.tuple.rel key s) (alone : others.SameBut (λ n. nat_eq n 11) mid.kept new.kept)
+    (tells : TellsGroup mid new wid x.tuple.rel key s) (alone : SamePlacesBut (λ n. nat_eq n 11) mid.kept new.kept)
     (world : IsWorld t x.path wid) (fits : IsTupleRow x.tuple) (has : HasAt tuple_ix_codec t x.tuple (Some tid)) where
   pub counts_settle : (more : ℕ) → more ≡ capped (s.put + cond stood 0 1) → CountsSettled t new.kept x more s.taken
   counts_settle more sum b h may a z before after =

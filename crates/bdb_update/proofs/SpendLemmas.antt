@@ -24,7 +24,7 @@ use Rattle.bdb_tables.proofs.DifferenceLemmas.{is_among}
 use Rattle.bdb_tables.proofs.SameLemmas.{change_same}
 use Rattle.bdb_tables.proofs.WriteLemmas.{get_after_change}
 use Rattle.bdb_val.specs.Counts.{TellsDifferences}
-use Rattle.bdb_val.specs.Others.{SameBut}
+use Rattle.bdb_val.specs.Others.{SamePlacesBut}
 use Rattle.bdb_worlds.specs.Bounds.{EndsWithin}
 use Rattle.bdb_worlds.specs.Bounds as states
 use Rattle.bdb_worlds.specs.Growth.{SameOutside}
@@ -44,25 +44,25 @@ nowhere : (n : ℕ) (k : List ℕ) → [] ≡ n ∷ k → ⊥
 nowhere n k e = cc
 
 -- a change of a row leaves the places of all other tables
-pub change_alone : {Key Row : Type 0} (c : Codec Key Row) (test : ℕ → Bool) (t : Tables) (x : Key × Option Row) → test c.number ≡ true → SameBut test t (with_change c t x)
+pub change_alone : {Key Row : Type 0} (c : Codec Key Row) (test : ℕ → Bool) (t : Tables) (x : Key × Option Row) → test c.number ≡ true → SamePlacesBut test t (with_change c t x)
 change_alone c test t x here [] out =
     get_after_change c t x [] ∙ cond-false (eq_by_cmp bytes_cmp [] (place c x.0)) (option_map c.row_bytes x.1) (tables.get t [])
     (false_from_ne_true (eq_by_cmp bytes_cmp [] (place c x.0)) (λ e. nowhere c.number (c.key_bytes x.0) (same_place [] (place c x.0) e)))
 change_alone c test t x here (n ∷ k) out = change_same c test t x here n k out
 
-pub alone_then : (test : ℕ → Bool) (t u v : Tables) → SameBut test t u → SameBut test u v → SameBut test t v
+pub alone_then : (test : ℕ → Bool) (t u v : Tables) → SamePlacesBut test t u → SamePlacesBut test u v → SamePlacesBut test t v
 alone_then test t u v a b q out = b q out ∙ a q out
 
-pub number_alone : (t u : Tables) (tid : ℕ) (tuple : Tuple) → u ≡ number_put t tid tuple → SameBut is_of_tuples t u
+pub number_alone : (t u : Tables) (tid : ℕ) (tuple : Tuple) → u ≡ number_put t tid tuple → SamePlacesBut is_of_tuples t u
 number_alone t u tid tuple e =
     let m = with_change tuple_codec t (tid, Some tuple) in
-    subst (λ (v : Tables). SameBut is_of_tuples t v) (sym e)
+    subst (λ (v : Tables). SamePlacesBut is_of_tuples t v) (sym e)
     (alone_then is_of_tuples t m (with_change tuple_ix_codec m (tuple, Some tid)) (change_alone tuple_codec is_of_tuples t (tid, Some tuple) refl) (change_alone tuple_ix_codec is_of_tuples m (tuple, Some tid) refl))
 
-pub number_gone_alone : (t u : Tables) (tid : ℕ) (tuple : Tuple) → u ≡ number_taken t tid tuple → SameBut is_of_tuples t u
+pub number_gone_alone : (t u : Tables) (tid : ℕ) (tuple : Tuple) → u ≡ number_taken t tid tuple → SamePlacesBut is_of_tuples t u
 number_gone_alone t u tid tuple e =
     let m = with_change tuple_codec t (tid, None) in
-    subst (λ (v : Tables). SameBut is_of_tuples t v) (sym e)
+    subst (λ (v : Tables). SamePlacesBut is_of_tuples t v) (sym e)
     (alone_then is_of_tuples t m (with_change tuple_ix_codec m (tuple, None)) (change_alone tuple_codec is_of_tuples t (tid, None) refl) (change_alone tuple_ix_codec is_of_tuples m (tuple, None) refl))
 
 -- a number that was free takes no other's place
@@ -88,8 +88,8 @@ number_stood t u tid tuple e k r found =
     ]
 
 -- a row's table alone has changed where a row of it did, and then its rows
-pub row_alone : (t m u : Tables) (x : ValKey × Option Mark) → m ≡ with_change val_codec t x → SameBut rows_alone m u → SameBut rows_alone t u
-row_alone t m u x e same = alone_then rows_alone t m u (subst (λ (v : Tables). SameBut rows_alone t v) (sym e) (change_alone val_codec rows_alone t x refl)) same
+pub row_alone : (t m u : Tables) (x : ValKey × Option Mark) → m ≡ with_change val_codec t x → SamePlacesBut rows_alone m u → SamePlacesBut rows_alone t u
+row_alone t m u x e same = alone_then rows_alone t m u (subst (λ (v : Tables). SamePlacesBut rows_alone t v) (sym e) (change_alone val_codec rows_alone t x refl)) same
 
 -- ---- a row is written, and then those that differ
 
@@ -134,7 +134,7 @@ module _ (f g h : Look) (e : List ℕ) (like : (q : List ℕ) → same_text q e 
   few_but_one = let a = fewer differs maybe in let b = fewer away ps in omega arith
 
 module _ (old mid new : Seen) (x : ValKey × Option Mark) (put taken : ℕ) (made : mid.kept ≡ with_change val_codec old.kept x) (one : Rises 1 old.writes mid.writes) (later : mid.writes ≤ new.writes)
-    (alone : SameBut rows_alone mid.kept new.kept) (tells : TellsDifferences mid new put taken) where
+    (alone : SamePlacesBut rows_alone mid.kept new.kept) (tells : TellsDifferences mid new put taken) where
   like_before : (q : List ℕ) → same_text q (place val_codec x.0) ≡ false → vals_at mid.kept q ≡ vals_at old.kept q
   like_before [] out = refl
   like_before (n ∷ k) out =
@@ -160,7 +160,7 @@ module _ (old mid new : Seen) (x : ValKey × Option Mark) (put taken : ℕ) (mad
 outside_states : (n : ℕ) → not (is_of_tuples n || nat_eq n 11) ≡ false → (nat_le 6 n && nat_le n 10) ≡ false
 outside_states n h = grind (arith, nat_tests)
 
-pub states_then_rows : (d rows : ℕ) (old mid new : Seen) → states.WritesWithin (d + 2) old mid → SameOutside 6 10 old.kept mid.kept → SameBut rows_alone mid.kept new.kept → Rises rows mid.writes new.writes
+pub states_then_rows : (d rows : ℕ) (old mid new : Seen) → states.WritesWithin (d + 2) old mid → SameOutside 6 10 old.kept mid.kept → SamePlacesBut rows_alone mid.kept new.kept → Rises rows mid.writes new.writes
     → mid.writes ≤ new.writes → StateWrites (d + 2) rows old new
 states_then_rows d rows old mid new within outside alone rises later ps diff small =
     let of_states : AreDifferences (part_at is_of_states old.kept) (part_at is_of_states mid.kept) ps =

@@ -14,7 +14,7 @@ use Rattle.bdb_keep.specs.Tables.{Tables}
 use Rattle.bdb_tables.specs.Differences.{AreDifferences}
 use Rattle.bdb_tables.proofs.DifferenceLemmas.{is_among, differences_add, no_more}
 use Rattle.bdb_val.specs.Counts.{has_none, TellsDifferences}
-use Rattle.bdb_val.specs.Others as others
+use Rattle.bdb_val.specs.Others.{SamePlacesBut, is_in}
 use Rattle.bdb_val.specs.Steps.{counted}
 use Rattle.bdb_update.specs.Tallies.{vals_at, nothing_at, HasRowCount, Balances}
 
@@ -179,15 +179,15 @@ row_there t (n ∷ k) h = by (nat_eq n 11) refl
 abbrev pub rows_alone : ℕ → Bool
 rows_alone n = nat_eq n 11
 
-pub in_rows : (q : List ℕ) (t : Tables) → vals_at t q ≢ None → others.is_in rows_alone q ≡ true
+pub in_rows : (q : List ℕ) (t : Tables) → vals_at t q ≢ None → is_in rows_alone q ≡ true
 in_rows [] t h = absurd (h refl)
 in_rows (n ∷ k) t h = elim (cases_Bool (nat_eq n 11)) [ inl e ↦ e | inr e ↦ absurd (h (cond-false (nat_eq n 11) (tables.get t (n ∷ k)) None e)) ]
 
-pub vals_is : (t : Tables) (q : List ℕ) → others.is_in rows_alone q ≡ true → vals_at t q ≡ tables.get t q
+pub vals_is : (t : Tables) (q : List ℕ) → is_in rows_alone q ≡ true → vals_at t q ≡ tables.get t q
 vals_is t [] e = absurd (false≢true e)
 vals_is t (n ∷ k) e = cond-true (nat_eq n 11) (tables.get t (n ∷ k)) None e
 
-module _ (t u : Tables) (n m : ℕ) (same : others.SameBut rows_alone t u) (a : HasRowCount t n) (b : HasRowCount u m) where
+module _ (t u : Tables) (n m : ℕ) (same : SamePlacesBut rows_alone t u) (a : HasRowCount t n) (b : HasRowCount u m) where
   -- places with rows before, and afterwards
   abbrev ps : Places
   ps = a.places
@@ -209,10 +209,10 @@ module _ (t u : Tables) (n m : ℕ) (same : others.SameBut rows_alone t u) (a : 
   qs_there = all_weaker (λ q. vals_at u q ≢ None) (λ q. is_some (tables.get u q) ≡ true) (λ q h. row_there u q h) qs b.are.each
 
   -- what is not among those that had rows had none
-  none_before : (q : List ℕ) → others.is_in rows_alone q ≡ true → is_among q ps ≡ false → tables.get t q ≡ None
+  none_before : (q : List ℕ) → is_in rows_alone q ≡ true → is_among q ps ≡ false → tables.get t q ≡ None
   none_before q i out = sym (vals_is t q i) ∙ a.are.only q out
 
-  none_after : (q : List ℕ) → others.is_in rows_alone q ≡ true → is_among q qs ≡ false → tables.get u q ≡ None
+  none_after : (q : List ℕ) → is_in rows_alone q ≡ true → is_among q qs ≡ false → tables.get u q ≡ None
   none_after q i out = sym (vals_is u q i) ∙ b.are.only q out
 
   -- ---- those that stay are as many on both sides
@@ -235,7 +235,7 @@ module _ (t u : Tables) (n m : ℕ) (same : others.SameBut rows_alone t u) (a : 
         go xs h.1 k.1,
       )
         where
-          there : (q : List ℕ) → others.is_in rows_alone q ≡ true → is_some (tables.get u q) ≡ true → is_among q qs ≡ true
+          there : (q : List ℕ) → is_in rows_alone q ≡ true → is_some (tables.get u q) ≡ true → is_among q qs ≡ true
           there q i s = elim (cases_Bool (is_among q qs)) [ inl e ↦ e | inr e ↦ absurd (false≢true (sym (ap is_some (none_after q i e)) ∙ s)) ]
 
   there_too : AllByRecursion (λ q. is_among q stay ≡ true) stayed
@@ -249,7 +249,7 @@ module _ (t u : Tables) (n m : ℕ) (same : others.SameBut rows_alone t u) (a : 
         go xs h.1 k.1,
       )
         where
-          there : (q : List ℕ) → others.is_in rows_alone q ≡ true → is_some (tables.get t q) ≡ true → is_among q ps ≡ true
+          there : (q : List ℕ) → is_in rows_alone q ≡ true → is_some (tables.get t q) ≡ true → is_among q ps ≡ true
           there q i s = elim (cases_Bool (is_among q ps)) [ inl e ↦ e | inr e ↦ absurd (false≢true (sym (ap is_some (none_before q i e)) ∙ s)) ]
 
   pub rows_balance : n + length came ≡ m + length went
@@ -319,7 +319,7 @@ module _ (t u : Tables) (n m : ℕ) (same : others.SameBut rows_alone t u) (a : 
   differences = record {
     once = filter_distinct differs (ps ++ came) union.once;
     each = all_filter (λ p. tables.get t p ≢ tables.get u p) differs (ps ++ came) (all_of (λ p. differs p ≡ true → tables.get t p ≢ tables.get u p) differ_is (ps ++ came));
-    only = λ q out. elim (cases_Bool (others.is_in rows_alone q)) [
+    only = λ q out. elim (cases_Bool (is_in rows_alone q)) [
       | inr away ↦ sym (same q away)
       | inl i ↦ elim (cases_Bool (differs q)) [
         | inr d ↦ differ_not q d
@@ -363,7 +363,7 @@ module _ (t u : Tables) (n m : ℕ) (same : others.SameBut rows_alone t u) (a : 
       append_none (x ∷ xs) = ap (λ zs. x ∷ zs) (append_none xs)
 
 -- what is told of the differences balances the numbers of rows, where these are no more than fit
-pub told_balance : (old new : Seen) (n m put taken : ℕ) → others.SameBut rows_alone old.kept new.kept → HasRowCount old.kept n → HasRowCount new.kept m → n < 2 ^ 64 - 1 → m < 2 ^ 64 - 1
+pub told_balance : (old new : Seen) (n m put taken : ℕ) → SamePlacesBut rows_alone old.kept new.kept → HasRowCount old.kept n → HasRowCount new.kept m → n < 2 ^ 64 - 1 → m < 2 ^ 64 - 1
     → TellsDifferences old new put taken → Balances n m put taken
 told_balance old new n m put taken same a b ln lm tells =
     let t = old.kept in

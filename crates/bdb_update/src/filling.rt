@@ -7,7 +7,7 @@ ghost use Rattle.bdb_tables.specs.Grammar.{InGrammar};
 ghost use Rattle.bdb_tables.specs.InUse.{link_codec};
 ghost use Rattle.bdb_update.specs.Filling.{CountsCome, FillsWorlds, HasLink, IsFilled, SomeHaveCome};
 ghost use Rattle.bdb_val.specs.Reads.{HaveTuples};
-ghost use Rattle.bdb_val.specs.Others.{SameBut};
+ghost use Rattle.bdb_val.specs.Others.{SamePlacesBut};
 ghost use Rattle.bdb_val.specs.Steps.{IsChanging, counted};
 ghost use Rattle.bdb_val.specs.WorldCopies.{TellsCopy};
 
@@ -32,7 +32,7 @@ pub fn fill_worlds<K: Keeper>(
     ensures counted { IfOk result
         (CountsCome (K.seen keeper.old).kept (K.seen keeper.new).kept wids.now) }
     ensures others { OnOk result
-        (SameBut (λ n. nat_eq n 11) (K.seen keeper.old).kept (K.seen keeper.new).kept) }
+        (SamePlacesBut (λ n. nat_eq n 11) (K.seen keeper.old).kept (K.seen keeper.new).kept) }
     ensures writes { IfOk result
         (λ n. Rises n (K.seen keeper.old).writes (K.seen keeper.new).writes) }
     ensures grammar { OnOk result (InGrammar (K.seen keeper.new).kept) }
@@ -65,7 +65,7 @@ fn fill_world<K: Keeper>(alloc: Global, keeper: &mut K, wid: u32) -> Result<usiz
     ensures filled { OnOk result (IsFilled (K.seen keeper.old).kept (K.seen keeper.new).kept wid) }
     ensures tells { IfOk result (TellsCopy (K.seen keeper.old) (K.seen keeper.new) wid) }
     ensures others { OnOk result
-        (SameBut (λ n. nat_eq n 11) (K.seen keeper.old).kept (K.seen keeper.new).kept) }
+        (SamePlacesBut (λ n. nat_eq n 11) (K.seen keeper.old).kept (K.seen keeper.new).kept) }
     ensures writes { IfOk result
         (λ n. Rises n (K.seen keeper.old).writes (K.seen keeper.new).writes) }
     ensures grammar { OnOk result (InGrammar (K.seen keeper.new).kept) }

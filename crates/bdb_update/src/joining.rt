@@ -14,7 +14,7 @@ ghost use Rattle.bdb_update.specs.Keeping.{KeepsNames, KeepsTuples, TakesLeastNa
 ghost use Rattle.bdb_tables.specs.Lengths.{IsKeyLength};
 ghost use Rattle.bdb_update.specs.Numbering.{HoldsSomeTuples, IsLeastNumber, TakesLeast, number_put};
 ghost use Rattle.bdb_tables.specs.Stored.{SameBut};
-ghost use Rattle.bdb_val.specs.Others as others;
+ghost use Rattle.bdb_val.specs.Others.{SamePlacesBut};
 ghost use Rattle.bdb_val.specs.Steps.{IsChanging, counted};
 ghost use Rattle.bdb_worlds.specs.Bounds.{EndsWithin};
 
@@ -104,7 +104,7 @@ pub fn number_tuple<K: Keeper>(
     ensures writes { OnOk result
         (EndsWithin 2 (K.seen keeper.old).writes (K.seen keeper.new).writes) }
     ensures others { OnOk result
-        (others.SameBut is_of_tuples (K.seen keeper.old).kept (K.seen keeper.new).kept) }
+        (SamePlacesBut is_of_tuples (K.seen keeper.old).kept (K.seen keeper.new).kept) }
     ensures changing { IsChanging (K.seen keeper.old) (K.seen keeper.new) result TabError.Fault }
 {
     match found {
@@ -181,7 +181,7 @@ pub fn settle_statement<K: Keeper>(
         (λ s. CountsSettled (K.seen keeper.old).kept
         (K.seen keeper.new).kept stmt.now s.put s.taken) }
     ensures writes { OnOk result (RowWrites 2 (K.seen keeper.old) (K.seen keeper.new)) }
-    ensures others { OnOk result (others.SameBut (λ n. nat_eq n 11) (K.seen keeper.old).kept
+    ensures others { OnOk result (SamePlacesBut (λ n. nat_eq n 11) (K.seen keeper.old).kept
         (K.seen keeper.new).kept) }
     ensures changing { IsChanging (K.seen keeper.old) (K.seen keeper.new) result TabError.Fault }
 {

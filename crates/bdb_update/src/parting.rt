@@ -13,7 +13,7 @@ ghost use Rattle.bdb_tables.specs.Lengths.{IsKeyLength};
 ghost use Rattle.bdb_update.specs.Numbering.{number_taken};
 ghost use Rattle.bdb_update.specs.Parting.{ClearsWorlds, CountsWorlds, LosesNumber, LosesRows, LosesWorlds, Parts, PartsRows, SomeHasFewerWorlds, SomeHasParted, SomeMayPart, TellsNumber, row_taken};
 ghost use Rattle.bdb_tables.specs.Stored.{SameBut};
-ghost use Rattle.bdb_val.specs.Others as others;
+ghost use Rattle.bdb_val.specs.Others.{SamePlacesBut};
 ghost use Rattle.bdb_val.specs.Reads.{HaveTuples};
 ghost use Rattle.bdb_val.specs.Steps.{IsChanging};
 ghost use Rattle.bdb_worlds.specs.Bounds.{EndsWithin};
@@ -50,7 +50,7 @@ pub fn part_statement<K: Keeper>(
     ensures rows { IfOk result
         (λ s. PartsRows (K.seen keeper.old).kept (K.seen keeper.new).kept stmt.now s.put s.taken) }
     ensures writes { OnOk result (RowWrites 2 (K.seen keeper.old) (K.seen keeper.new)) }
-    ensures others { OnOk result (others.SameBut (λ n. nat_eq n 11) (K.seen keeper.old).kept
+    ensures others { OnOk result (SamePlacesBut (λ n. nat_eq n 11) (K.seen keeper.old).kept
         (K.seen keeper.new).kept) }
     ensures changing { IsChanging (K.seen keeper.old) (K.seen keeper.new) result TabError.Fault }
 {
@@ -146,7 +146,7 @@ fn clear_worlds<K: Keeper>(alloc: Global, keeper: &mut K, wids: &[u32]) -> Resul
     ensures rows { IfOk result (LosesRows (K.seen keeper.old).kept (K.seen keeper.new).kept) }
     ensures writes { IfOk result
         (λ n. Rises n (K.seen keeper.old).writes (K.seen keeper.new).writes) }
-    ensures others { OnOk result (others.SameBut (λ n. nat_eq n 11) (K.seen keeper.old).kept
+    ensures others { OnOk result (SamePlacesBut (λ n. nat_eq n 11) (K.seen keeper.old).kept
         (K.seen keeper.new).kept) }
     ensures changing { IsChanging (K.seen keeper.old) (K.seen keeper.new) result TabError.Fault }
 {
@@ -179,7 +179,7 @@ pub fn drop_number<K: Keeper>(
     ensures writes { OnOk result
         (EndsWithin 2 (K.seen keeper.old).writes (K.seen keeper.new).writes) }
     ensures others { OnOk result
-        (others.SameBut is_of_tuples (K.seen keeper.old).kept (K.seen keeper.new).kept) }
+        (SamePlacesBut is_of_tuples (K.seen keeper.old).kept (K.seen keeper.new).kept) }
     ensures changing { IsChanging (K.seen keeper.old) (K.seen keeper.new) result TabError.Fault }
 {
     match is_told(keeper, tid) {

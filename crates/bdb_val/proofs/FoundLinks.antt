@@ -22,7 +22,7 @@ use Rattle.bdb_tables.specs.InUse.{IsPair, pair_bytes, linked_codec}
 use Rattle.bdb_tables.specs.InUseLaws.{pairs_in_order}
 use Rattle.bdb_tables.specs.Spans.{AreUnder, IsUnder, entry_bytes, entry_cmp}
 use Rattle.bdb_tables.proofs.ListLemmas.{prefix_append}
-use Rattle.bdb_val.specs.Others.{SameBut}
+use Rattle.bdb_val.specs.Others.{SamePlacesBut}
 use Rattle.bdb_val.specs.Visits.{AreLinks, ArePushed, led_to, leads_to, turned_round}
 use Rattle.bdb_val.proofs.OtherLemmas.{is_rows}
 use Rattle.bdb_val.proofs.WalkLemmas.{first_is}
@@ -200,7 +200,7 @@ found_links t wid links are_all before after n h all e =
     }
 
 -- links that were read are those of the tables while only rows of worlds change
-pub links_stay : (t u : Tables) → SameBut is_rows t u → (are_all : Bool) (links : List Link) → AreLinks t are_all links → AreLinks u are_all links
+pub links_stay : (t u : Tables) → SamePlacesBut is_rows t u → (are_all : Bool) (links : List Link) → AreLinks t are_all links → AreLinks u are_all links
 links_stay t u same are_all links h all =
     let k = h all in
     record { each = k.each; sorted = k.sorted; found = λ q begins. same (8 ∷ q) refl ∙ k.found q begins }

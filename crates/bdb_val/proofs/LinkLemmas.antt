@@ -16,7 +16,7 @@ use Rattle.bdb_tables.specs.States.{row_where}
 use Rattle.bdb_tables.proofs.RangeLemmas.{spelled_under, zip_more, zip_all}
 use Rattle.bdb_tables.proofs.Held.{leads_is}
 use Rattle.bdb_val.specs.Groups.{HasLinks}
-use Rattle.bdb_val.specs.Others.{SameBut}
+use Rattle.bdb_val.specs.Others.{SamePlacesBut}
 use Rattle.bdb_val.specs.Visits.{AreLinksTo, ArePushed, PushesRead, turned_round}
 use Rattle.bdb_val.specs.Walks.{AreLinkedTo}
 use Rattle.bdb_val.proofs.OtherLemmas.{is_rows}
@@ -39,11 +39,11 @@ abbrev pub IsLink : Tables → ℕ × ℕ → Type 0
 IsLink t p = HasAt link_codec t p.0 (Some p.1)
 
 -- links stay where only rows of worlds change
-pub still_link : (t u : Tables) → SameBut is_rows t u → (p : ℕ × ℕ) → IsLink t p → IsLink u p
+pub still_link : (t u : Tables) → SamePlacesBut is_rows t u → (p : ℕ × ℕ) → IsLink t p → IsLink u p
 still_link t u same p h = record { in_grammar = h.in_grammar; found = same (place link_codec p.0) refl ∙ h.found }
 
 -- the links that lead to a world, read after rows of worlds changed, are those of the tables before
-pub links_are : (ns : Names) (t u : Tables) → HasLinks ns t → SameBut is_rows t u → (wid : ℕ) (more : List (ℕ × ℕ)) → AreLinksTo u wid more → AllByRecursion (IsLink t) more
+pub links_are : (ns : Names) (t u : Tables) → HasLinks ns t → SamePlacesBut is_rows t u → (wid : ℕ) (more : List (ℕ × ℕ)) → AreLinksTo u wid more → AllByRecursion (IsLink t) more
 links_are ns t u h same wid more l = subst (AllByRecursion (IsLink t)) (sym l.listed) (go l.entries l.under.each (link_found l.entries l.entries (λ q k. k)))
   where
     stands : (b : Bool) (o : Option (List ℕ)) → option_map (λ _. []) (row_where b) ≡ o → is_some o ≡ true → b ≡ true

@@ -11,16 +11,16 @@ use Rattle.bdb_tables.specs.InUse.{ValKey, val_codec}
 use Rattle.bdb_tables.specs.Marks.{Mark}
 use Rattle.bdb_tables.specs.Writes.{with_change, with_changes}
 use Rattle.bdb_tables.proofs.WriteLemmas.{get_after_change}
-use Rattle.bdb_val.specs.Others.{is_in, SameBut}
+use Rattle.bdb_val.specs.Others.{is_in, SamePlacesBut}
 
 -- a change is in its table alone
-change_same : {Key Row : Type 0} (d : Codec Key Row) (test : ℕ → Bool) (t : Tables) (x : Key × Option Row) → test d.number ≡ true → SameBut test t (with_change d t x)
+change_same : {Key Row : Type 0} (d : Codec Key Row) (test : ℕ → Bool) (t : Tables) (x : Key × Option Row) → test d.number ≡ true → SamePlacesBut test t (with_change d t x)
 change_same d test t x here q out =
     get_after_change d t x q
     ∙ ap (λ b. cond b (option_map d.row_bytes x.1) (tables.get t q))
     (false_from_ne_true (eq_by_cmp bytes_cmp q (place d x.0)) (λ e. false≢true (sym out ∙ ap (is_in test) (same_place q (place d x.0) e) ∙ here)))
 
-changes_same : {Key Row : Type 0} (d : Codec Key Row) (test : ℕ → Bool) (t : Tables) (xs : List (Key × Option Row)) → test d.number ≡ true → SameBut test t (with_changes d t xs)
+changes_same : {Key Row : Type 0} (d : Codec Key Row) (test : ℕ → Bool) (t : Tables) (xs : List (Key × Option Row)) → test d.number ≡ true → SamePlacesBut test t (with_changes d t xs)
 changes_same d test t [] here q out = refl
 changes_same d test t (x ∷ xs) here q out = changes_same d test (with_change d t x) xs here q out ∙ change_same d test t x here q out
 
@@ -28,5 +28,5 @@ changes_same d test t (x ∷ xs) here q out = changes_same d test (with_change d
 abbrev pub is_rows : ℕ → Bool
 is_rows n = nat_eq n 11
 
-pub made_same : (t u : Tables) (xs : List (ValKey × Option Mark)) → u ≡ with_changes val_codec t xs → SameBut is_rows t u
-made_same t u xs e = subst (SameBut is_rows t) (sym e) (changes_same val_codec is_rows t xs refl)
+pub made_same : (t u : Tables) (xs : List (ValKey × Option Mark)) → u ≡ with_changes val_codec t xs → SamePlacesBut is_rows t u
+made_same t u xs e = subst (SamePlacesBut is_rows t) (sym e) (changes_same val_codec is_rows t xs refl)

@@ -21,7 +21,7 @@ use Rattle.bdb_tables.specs.GroupMarks.{group_bytes}
 use Rattle.bdb_val.specs.Counts.{has_none, TellsDifferences}
 use Rattle.bdb_val.specs.Groups.{HasLinks, IsUnsettled}
 use Rattle.bdb_val.specs.Middle.{worlds_of}
-use Rattle.bdb_val.specs.Others.{SameBut}
+use Rattle.bdb_val.specs.Others.{SamePlacesBut}
 use Rattle.bdb_val.specs.Reads.{HaveTuples, is_of_group}
 use Rattle.bdb_val.specs.Stated.{WhereStated}
 use Rattle.bdb_val.specs.Steps.{counted}
@@ -53,7 +53,7 @@ pub record IsWalking (old now : Seen) (rel : ℕ) (v : List Value) (start : ℕ)
   pub gone : HasGone old now
   pub grammar : InGrammar now.kept
   pub tuples : HaveTuples now.kept
-  pub others : SameBut is_rows old.kept now.kept
+  pub others : SamePlacesBut is_rows old.kept now.kept
   pub walked : (keys : ℕ → ℕ) (stmts : List Stmt) (ns : Names) (tuple : ℕ → Option Tuple) (f : ValKey → Option Mark) → IsUnsettled keys stmts ns tuple f old.kept start (is_of_group keys rel v)
       → IsWalked keys old now (λ w. group_bytes w rel v) start list total
 
@@ -61,7 +61,7 @@ counted_both : (a b m n : ℕ) → a ≡ counted m → b ≡ n → counted (a + 
 counted_both a b m n e f = omega arith
 
 -- the first visit
-first_walked : (keys : ℕ → ℕ) (ns : Names) (old new : Seen) (prefix : ℕ → List ℕ) (start : ℕ) (before list : List (ℕ × ℕ)) (s : SettledWorld) (sum : Settled) → HasLinks ns old.kept → SameBut is_rows old.kept new.kept
+first_walked : (keys : ℕ → ℕ) (ns : Names) (old new : Seen) (prefix : ℕ → List ℕ) (start : ℕ) (before list : List (ℕ × ℕ)) (s : SettledWorld) (sum : Settled) → HasLinks ns old.kept → SamePlacesBut is_rows old.kept new.kept
     → sum.put ≡ counted s.put → sum.taken ≡ counted s.taken → before ≡ [] → IsFirstVisit keys old new prefix start before list s → IsWalked keys old new prefix start list sum
 first_walked keys ns old new prefix start before list s sum links same p q none v =
     let more = v.pushed.more in
@@ -78,7 +78,7 @@ first_walked keys ns old new prefix start before list s sum links same p q none 
       writes = v.told.writes;
     }
 
-pub walk_begins : (old new : Seen) (rel : ℕ) (v : List Value) (start : ℕ) (before list : List (ℕ × ℕ)) (s : SettledWorld) (sum : Settled) → HasGone old new → InGrammar new.kept → HaveTuples new.kept → SameBut is_rows old.kept new.kept
+pub walk_begins : (old new : Seen) (rel : ℕ) (v : List Value) (start : ℕ) (before list : List (ℕ × ℕ)) (s : SettledWorld) (sum : Settled) → HasGone old new → InGrammar new.kept → HaveTuples new.kept → SamePlacesBut is_rows old.kept new.kept
     → sum.put ≡ counted s.put → sum.taken ≡ counted s.taken → before ≡ [] → WhereStated old.kept (λ keys. IsFirstVisit keys old new (λ w. group_bytes w rel v) start before list s) → IsWalking old new rel v start list sum
 walk_begins old new rel v start before list s sum gone grammar tuples others p q none visit = record {
   gone = gone;
@@ -117,7 +117,7 @@ left_of_visit keys old new prefix wid n before after s le v = record {
 }
 
 -- one visit more
-next_walked : (keys : ℕ → ℕ) (ns : Names) (old now new : Seen) (prefix : ℕ → List ℕ) (start : ℕ) (at : ℕ × ℕ) (list left after : List (ℕ × ℕ)) (total : Settled) (s : SettledWorld) (sum : Settled) → HasLinks ns old.kept → SameBut is_rows old.kept new.kept
+next_walked : (keys : ℕ → ℕ) (ns : Names) (old now new : Seen) (prefix : ℕ → List ℕ) (start : ℕ) (at : ℕ × ℕ) (list left after : List (ℕ × ℕ)) (total : Settled) (s : SettledWorld) (sum : Settled) → HasLinks ns old.kept → SamePlacesBut is_rows old.kept new.kept
     → HasGone old now → HasGone now new → IsWalked keys old now prefix start list total → AllByRecursion (IsLink old.kept) left
     → list ≡ at ∷ left → IsNextVisit keys now new prefix at.0 left after s → sum.put ≡ counted (total.put + s.put) → sum.taken ≡ counted (total.taken + s.taken) → IsWalked keys old new prefix start after sum
 next_walked keys ns old now new prefix start at list left after total s sum links same before gone w behind is v p q =
@@ -145,11 +145,11 @@ next_walked keys ns old now new prefix start at list left after total s sum link
     }
 
 pub walk_more : (old now new : Seen) (rel : ℕ) (v : List Value) (start : ℕ) (at : ℕ × ℕ) (list left after : List (ℕ × ℕ)) (total : Settled) (s : SettledWorld) (sum : Settled) → IsNum rel → AreKeyVals v → IsWalking old now rel v start list total
-    → list ≡ at ∷ left → HasGone now new → InGrammar new.kept → HaveTuples new.kept → SameBut is_rows now.kept new.kept
+    → list ≡ at ∷ left → HasGone now new → InGrammar new.kept → HaveTuples new.kept → SamePlacesBut is_rows now.kept new.kept
     → (IsLink now.kept at → WhereStated now.kept (λ keys. IsNextVisit keys now new (λ w. group_bytes w rel v) at.0 left after s))
     → sum.put ≡ counted (total.put + s.put) → sum.taken ≡ counted (total.taken + s.taken) → IsWalking old new rel v start after sum
 walk_more old now new rel v start at list left after total s sum r plain w is gone grammar tuples others visit p q =
-    let same : SameBut is_rows old.kept new.kept = λ place out. others place out ∙ w.others place out in
+    let same : SamePlacesBut is_rows old.kept new.kept = λ place out. others place out ∙ w.others place out in
     record {
       gone = gone_then old now new w.gone gone;
       grammar = grammar;

@@ -9,5 +9,5 @@ is_in test [] = false
 is_in test (n ∷ k) = test n
 
 -- tables have the same rows, but for those in tables whose numbers pass a test
-abbrev pub SameBut : (ℕ → Bool) → Tables → Tables → Type 0
-SameBut test t u = (q : List ℕ) → is_in test q ≡ false → tables.get u q ≡ tables.get t q
+abbrev pub SamePlacesBut : (ℕ → Bool) → Tables → Tables → Type 0
+SamePlacesBut test t u = (q : List ℕ) → is_in test q ≡ false → tables.get u q ≡ tables.get t q

@@ -9,7 +9,7 @@ ghost use Rattle.bdb_tables.specs.GroupMarks.{AreChanges, HaveMarks, IsGroup, gr
 ghost use Rattle.bdb_tables.specs.InUse.{HaveKeyTexts, link_codec, val_codec};
 ghost use Rattle.bdb_tables.specs.Spans.{AreUnder};
 ghost use Rattle.bdb_val.specs.GroupChanges.{group_changes, mark_under, TellsMarks};
-ghost use Rattle.bdb_val.specs.Others.{SameBut};
+ghost use Rattle.bdb_val.specs.Others.{SamePlacesBut};
 ghost use Rattle.bdb_val.specs.Reads.{HaveTuples};
 ghost use Rattle.bdb_val.specs.Rooms.{IsRoomFor};
 ghost use Rattle.bdb_val.specs.Stated.{WhereStated};
@@ -48,7 +48,7 @@ pub fn settle_state<K: Keeper>(
         (λ keys. IsStep keys (K.seen keeper.old) (K.seen keeper.new) wid
         (λ w. group_bytes w rel key.now) settled)) }
     ensures others { OnOk result
-        (SameBut (λ n. nat_eq n 11) (K.seen keeper.old).kept (K.seen keeper.new).kept) }
+        (SamePlacesBut (λ n. nat_eq n 11) (K.seen keeper.old).kept (K.seen keeper.new).kept) }
     ensures grammar { OnOk result (InGrammar (K.seen keeper.new).kept) }
     ensures tuples { OnOk result (HaveTuples (K.seen keeper.new).kept) }
     ensures fits { OnOk result (AreKeyVals key.now) }

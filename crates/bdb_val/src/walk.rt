@@ -8,7 +8,7 @@ ghost use Rattle.bdb_tables.specs.Grammar.{InGrammar};
 ghost use Rattle.bdb_tables.specs.InUse.{HaveKeyTexts, link_codec};
 ghost use Rattle.bdb_tables.specs.GroupMarks.{group_bytes};
 ghost use Rattle.bdb_val.specs.Groups.{SettlesGroup, TellsGroup};
-ghost use Rattle.bdb_val.specs.Others.{SameBut};
+ghost use Rattle.bdb_val.specs.Others.{SamePlacesBut};
 ghost use Rattle.bdb_val.specs.Reads.{HaveTuples};
 ghost use Rattle.bdb_val.specs.Rooms.{IsRoomFor};
 ghost use Rattle.bdb_val.specs.Stated.{WhereStated};
@@ -45,7 +45,7 @@ pub fn settle_group<K: Keeper>(
     ensures tells { IfOk result
         (TellsGroup (K.seen keeper.old) (K.seen keeper.new) wid rel key.now) }
     ensures others { OnOk result
-        (SameBut (λ n. nat_eq n 11) (K.seen keeper.old).kept (K.seen keeper.new).kept) }
+        (SamePlacesBut (λ n. nat_eq n 11) (K.seen keeper.old).kept (K.seen keeper.new).kept) }
     ensures grammar { OnOk result (InGrammar (K.seen keeper.new).kept) }
     ensures tuples { OnOk result (HaveTuples (K.seen keeper.new).kept) }
     ensures changing { IsChanging (K.seen keeper.old) (K.seen keeper.new) result TabError.Fault }
@@ -79,7 +79,7 @@ fn settle_from<K: Keeper>(
     ensures tells { IfOk result
         (TellsGroup (K.seen keeper.old) (K.seen keeper.new) wid rel key.now) }
     ensures others { OnOk result
-        (SameBut (λ n. nat_eq n 11) (K.seen keeper.old).kept (K.seen keeper.new).kept) }
+        (SamePlacesBut (λ n. nat_eq n 11) (K.seen keeper.old).kept (K.seen keeper.new).kept) }
     ensures grammar { OnOk result (InGrammar (K.seen keeper.new).kept) }
     ensures tuples { OnOk result (HaveTuples (K.seen keeper.new).kept) }
     ensures changing { IsChanging (K.seen keeper.old) (K.seen keeper.new) result TabError.Fault }
@@ -137,7 +137,7 @@ fn visit_first<K: Keeper>(
         (λ keys. IsFirstVisit keys (K.seen keeper.old) (K.seen keeper.new)
         (λ w. group_bytes w rel key.now) wid list.old.items list.new.items settled)) }
     ensures others { OnOk result
-        (SameBut (λ n. nat_eq n 11) (K.seen keeper.old).kept (K.seen keeper.new).kept) }
+        (SamePlacesBut (λ n. nat_eq n 11) (K.seen keeper.old).kept (K.seen keeper.new).kept) }
     ensures grammar { OnOk result (InGrammar (K.seen keeper.new).kept) }
     ensures tuples { OnOk result (HaveTuples (K.seen keeper.new).kept) }
     ensures fits { OnOk result (AreKeyVals key.now) }
@@ -186,7 +186,7 @@ fn visit_next<K: Keeper>(
         (λ keys. IsNextVisit keys (K.seen keeper.old) (K.seen keeper.new)
         (λ w. group_bytes w rel key.now) next.0 list.old.items list.new.items settled)) }
     ensures others { OnOk result
-        (SameBut (λ n. nat_eq n 11) (K.seen keeper.old).kept (K.seen keeper.new).kept) }
+        (SamePlacesBut (λ n. nat_eq n 11) (K.seen keeper.old).kept (K.seen keeper.new).kept) }
     ensures grammar { OnOk result (InGrammar (K.seen keeper.new).kept) }
     ensures tuples { OnOk result (HaveTuples (K.seen keeper.new).kept) }
     ensures room { OnOk result

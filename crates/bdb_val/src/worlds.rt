@@ -3,7 +3,7 @@ ghost use Rattle.std.specs.Prelude.{◌≡◌, nat_eq, true, IfOk, OnOk};
 ghost use Rattle.bdb_base.specs.Causes.{Rises};
 ghost use Rattle.bdb_tables.specs.Grammar.{InGrammar};
 ghost use Rattle.bdb_val.specs.Counts.{TellsDifferences};
-ghost use Rattle.bdb_val.specs.Others.{SameBut};
+ghost use Rattle.bdb_val.specs.Others.{SamePlacesBut};
 ghost use Rattle.bdb_val.specs.Reads.{HaveTuples};
 ghost use Rattle.bdb_val.specs.Steps.{IsChanging};
 ghost use Rattle.bdb_val.specs.WorldCopies.{CopiesWorld, ClearsWorld, TellsCopy, IsRowCount};
@@ -25,7 +25,7 @@ pub fn copy_world<K: Keeper>(
     ensures copied { OnOk result
         (CopiesWorld (K.seen keeper.old).kept (K.seen keeper.new).kept from to) }
     ensures others { OnOk result
-        (SameBut (λ n. nat_eq n 11) (K.seen keeper.old).kept (K.seen keeper.new).kept) }
+        (SamePlacesBut (λ n. nat_eq n 11) (K.seen keeper.old).kept (K.seen keeper.new).kept) }
     ensures counted { IfOk result (IsRowCount (K.seen keeper.old).kept from) }
     ensures writes { IfOk result
         (λ n. Rises n (K.seen keeper.old).writes (K.seen keeper.new).writes) }
@@ -48,7 +48,7 @@ pub fn clear_world<K: Keeper>(alloc: Global, keeper: &mut K, wid: u32) -> Result
     ensures cleared { OnOk result
         (ClearsWorld (K.seen keeper.old).kept (K.seen keeper.new).kept wid) }
     ensures others { OnOk result
-        (SameBut (λ n. nat_eq n 11) (K.seen keeper.old).kept (K.seen keeper.new).kept) }
+        (SamePlacesBut (λ n. nat_eq n 11) (K.seen keeper.old).kept (K.seen keeper.new).kept) }
     ensures counted { IfOk result (IsRowCount (K.seen keeper.old).kept wid) }
     ensures writes { IfOk result
         (λ n. Rises n (K.seen keeper.old).writes (K.seen keeper.new).writes) }

@@ -4,7 +4,7 @@ use Rattle.bdb_tables.specs.Codec.{HasAt}
 use Rattle.bdb_tables.specs.InUse.{link_codec}
 use Rattle.bdb_tables.specs.GroupMarks.{group_bytes}
 use Rattle.bdb_val.specs.Middle.{HasExplicit}
-use Rattle.bdb_val.specs.Others.{SameBut}
+use Rattle.bdb_val.specs.Others.{SamePlacesBut}
 use Rattle.bdb_val.specs.Visits.{ArePushed}
 use Rattle.bdb_val.proofs.FoundLinks.{links_stay, links_same}
 use Rattle.bdb_val.proofs.OtherLemmas.{is_rows}
@@ -35,8 +35,8 @@ returns-in-Ok-push_linked-clause-visited g c keys stmts n tuple f h =
 
 pub returns-in-Ok-push_linked-clause-others : goal.returns-in-Ok-push_linked-clause-others
 returns-in-Ok-push_linked-clause-others g c =
-    subst (λ (t : Tables). SameBut is_rows (g.K.Keeper.seen c.args.keeper.now).kept t) (sym c.in-Ok-push_linked.ensures.read.kept)
-    (subst (λ (t : Tables). SameBut is_rows t (g.K.Keeper.seen c.settle_state.new.keeper).kept) c.in-Ok.ensures.read.kept c.in-Ok-settle_state.ensures.others)
+    subst (λ (t : Tables). SamePlacesBut is_rows (g.K.Keeper.seen c.args.keeper.now).kept t) (sym c.in-Ok-push_linked.ensures.read.kept)
+    (subst (λ (t : Tables). SamePlacesBut is_rows t (g.K.Keeper.seen c.settle_state.new.keeper).kept) c.in-Ok.ensures.read.kept c.in-Ok-settle_state.ensures.others)
 
 pub returns-in-Ok-push_linked-clause-room : goal.returns-in-Ok-push_linked-clause-room
 returns-in-Ok-push_linked-clause-room g c =

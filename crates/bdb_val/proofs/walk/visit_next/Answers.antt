@@ -1,7 +1,7 @@
 use Rattle.std.proofs.Common.{ℕ, inl, inr, refl, sym, subst}
 use Rattle.std.proofs.lemmas.Bool.{not-true}
 use Rattle.bdb_keep.specs.Tables.{Tables}
-use Rattle.bdb_val.specs.Others.{SameBut}
+use Rattle.bdb_val.specs.Others.{SamePlacesBut}
 use Rattle.bdb_tables.specs.GroupMarks.{group_bytes}
 use Rattle.bdb_val.specs.Visits.{ArePushed}
 use Rattle.bdb_val.proofs.FoundLinks.{links_stay}
@@ -37,7 +37,7 @@ returns-in-Ok-push_linked-clause-visited g c link keys stmts n tuple f h =
 
 pub returns-in-Ok-push_linked-clause-others : goal.returns-in-Ok-push_linked-clause-others
 returns-in-Ok-push_linked-clause-others g c =
-    subst (λ (t : Tables). SameBut is_rows (g.K.Keeper.seen c.args.keeper.now).kept t) (sym c.in-Ok-push_linked.ensures.read.kept) c.in-Ok.ensures.others
+    subst (λ (t : Tables). SamePlacesBut is_rows (g.K.Keeper.seen c.args.keeper.now).kept t) (sym c.in-Ok-push_linked.ensures.read.kept) c.in-Ok.ensures.others
 
 pub returns-in-Ok-push_linked-clause-room : goal.returns-in-Ok-push_linked-clause-room
 returns-in-Ok-push_linked-clause-room g c =
