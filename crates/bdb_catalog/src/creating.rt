@@ -10,11 +10,8 @@ ghost use Rattle.bdb_catalog.specs.Creating.{AddsRelation, SomeMayAddRelation};
 
 use bdb_base::RelDef;
 use bdb_keep::Keeper;
-use bdb_tables::{DepthTab, MetaTab, RelTab, TabError, put};
+use bdb_tables::{DepthTab, FORMAT, MetaTab, RelTab, TabError, put};
 use std::alloc::Global;
-
-/// The format of tables that store a base with its worlds.
-const FORMAT: u32 = 3;
 
 /// Makes tables without rows those of the empty base: the row of the format, and the depth of world 0. Two writes.
 pub fn write_empty<K: Keeper>(alloc: Global, keeper: &mut K) -> Result<(), TabError>

@@ -10,10 +10,8 @@ ghost use Rattle.bdb_former.specs.Respelled.{below, respelled, respelled_place, 
 use bdb_former::{respelled_key, respelled_row};
 use bdb_keep::{KeepError, Keeper};
 use bdb_memory::QuietKeeper;
+use bdb_tables::TABLES;
 use std::alloc::{AllocError, Global};
-
-/// How many tables a keeper has.
-const TABLES: u8 = 15;
 
 /// A keeper in memory that has all rows, each as this format spells it. Nothing is written to the keeper that is read: a read for
 /// each row, and one more for each table.

@@ -15,13 +15,10 @@ use crate::parts::{Parts, raw_parts};
 use crate::whole::raw_base_statements;
 use bdb_base::{Base, List};
 use bdb_copy::respelled_copy;
-use bdb_entries::{Format, TABLES, is_bare, is_in_grammar, others_are_bare, read_format};
+use bdb_entries::{Format, is_bare, is_in_grammar, others_are_bare, read_format};
 use bdb_keep::Keeper;
-use bdb_tables::{TabError, table_error};
+use bdb_tables::{FORMAT, TABLES, TabError, table_error};
 use std::alloc::Global;
-
-/// This format.
-const FORMAT: u32 = 3;
 
 /// The format before this one.
 const FORMER: u32 = 2;

@@ -7,14 +7,11 @@ ghost use Rattle.bdb_entries.specs.Reading.{IsBare, OthersAreBare};
 ghost use Rattle.bdb_tables.specs.Reading.{OnlyReads};
 
 use bdb_keep::Keeper;
-use bdb_tables::{TabError, table_error};
+use bdb_tables::{TABLES, TabError, table_error};
 use std::alloc::Global;
 
 /// The first of the tables that have no row in this format: that of statements by path, and those behind it.
 const FIRST_BARE: u8 = 12;
-
-/// How many tables a keeper has.
-pub const TABLES: u8 = 15;
 
 /// Whether each table that has no row in this format has none. One read for each.
 pub fn others_are_bare<K: Keeper>(alloc: Global, keeper: &mut K) -> Result<bool, TabError>

@@ -7,12 +7,12 @@ ghost use Rattle.bdb_tables.specs.Reading.{OnlyReads};
 ghost use Rattle.bdb_keep.specs.Tables.{LieInTables};
 ghost use Rattle.bdb_entries.specs.Reading.{AreEntries};
 
-use crate::bare::{TABLES, is_bare};
+use crate::bare::is_bare;
 use crate::reading::fits;
 use bdb_keep::Keeper;
 use bdb_tables::{
-    DepthTab, EdgeIx, EdgeTab, MetaTab, PlainTab, RelTab, SuffixIx, SuffixTab, Tab, TabError,
-    TupleIx, TupleTab, UserTab, ValTab,
+    DepthTab, EdgeIx, EdgeTab, MetaTab, PlainTab, RelTab, SuffixIx, SuffixTab, TABLES, Tab,
+    TabError, TupleIx, TupleTab, UserTab, ValTab,
 };
 use std::alloc::Global;
 

@@ -11,7 +11,7 @@ mod reading;
 mod tuples;
 mod validity;
 
-pub use bare::{TABLES, is_bare, others_are_bare};
+pub use bare::{is_bare, others_are_bare};
 pub use catalog::{raw_catalog, raw_relations, raw_users};
 pub use fitting::{all_belong, are_users};
 pub use format::{Format, read_format};

@@ -5,6 +5,7 @@ ghost use Rattle.bdb_former.specs.Respelled.{respelled_format, respelled_key, re
 
 use bdb_base::Value;
 use bdb_key::{put_num, put_value};
+use bdb_tables::FORMAT;
 use std::alloc::{AllocError, Global};
 
 /// How many bytes the numbers of the world and of the relation take in a key of table 11.
@@ -12,9 +13,6 @@ const FRONT: usize = 8;
 
 /// The row that tells the format before this one.
 const FORMER: [u8; 4] = [0, 0, 0, 2];
-
-/// The number of this format.
-const FORMAT: u32 = 3;
 
 /// A key of a table of the format before this one, as this one spells it.
 #[tactic(auto, using(crate::proofs::SpellLemmas::key_as_it_is))]

@@ -10,11 +10,8 @@ ghost use Rattle.bdb_tables.specs.Grammar.{InGrammar};
 ghost use Rattle.bdb_val.specs.Reads.{HaveTuples, world_prefix};
 
 use bdb_keep::{Keeper, Span};
-use bdb_tables::{TabError, table_error};
+use bdb_tables::{MARKS, TabError, table_error};
 use std::alloc::Global;
-
-// The number of the table of worlds' rows.
-const MARKS: u8 = 11;
 
 // The number of the table of tuples.
 const TUPLES: u8 = 4;

@@ -6,11 +6,8 @@ ghost use Rattle.bdb_stored.specs.Writing.{IsCleared};
 ghost use Rattle.bdb_update.specs.StoredLaws.{HaveNoRows};
 
 use bdb_keep::Keeper;
-use bdb_tables::{TabError, table_error};
+use bdb_tables::{TABLES, TabError, table_error};
 use std::alloc::Global;
-
-/// How many tables a keeper has.
-const TABLES: u8 = 15;
 
 /// Takes all rows away, whatever they are. Two calls for each row, and one for each table.
 pub fn clear_tables<K: Keeper>(alloc: Global, keeper: &mut K) -> Result<(), TabError>

@@ -24,7 +24,7 @@ use bdb_keep::{Keeper, Span};
 use bdb_key::{mark_of, only_num, put_num};
 use std::alloc::{AllocError, Global};
 
-// The number of the table of worlds' rows.
+/// The number of the table of worlds' rows.
 pub const MARKS: u8 = 11;
 
 /// The rows of worlds whose keys begin with these bytes, by the numbers of their tuples, in the order of the keys. One read more

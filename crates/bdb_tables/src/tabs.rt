@@ -12,6 +12,12 @@ use bdb_key::{
 };
 use std::alloc::{AllocError, Global};
 
+/// How many tables a keeper has.
+pub const TABLES: u8 = 15;
+
+/// The number of this format.
+pub const FORMAT: u32 = 3;
+
 /// Table 1: the format, in one row.
 pub struct MetaTab;
 
