@@ -24,14 +24,14 @@ use Rattle.bdb_key.proofs.Readings.{num_form}
 use Rattle.bdb_key.proofs.Compared.{take_plain, values_append}
 use Rattle.bdb_tables.specs.InUse.{val_bytes}
 use Rattle.bdb_tables.specs.Rows.{AreKeyLengths}
-use Rattle.bdb_tables.specs.Prefixes.{led_by}
+use Rattle.bdb_tables.specs.Prefixes.{led_by, key_prefix}
 use Rattle.bdb_tables.proofs.PrefixLemmas.{values_part, all_written}
 use Rattle.bdb_base.specs.Bases.{is_written}
 use Rattle.bdb_tables.proofs.ListLemmas.{prefix_append, prefix_rest}
 use Rattle.bdb_val.specs.Reads.{IsSpan}
 use Rattle.bdb_val.specs.Settling.{row_key}
 use Rattle.bdb_val.proofs.ReadLemmas.{key_of_fits}
-use Rattle.bdb_catalog.specs.Taking.{asks_for, key_prefix, is_asked, literal_of, starts_with, value_asked, value_of_test, values_asked, values_from}
+use Rattle.bdb_catalog.specs.Taking.{asks_for, is_asked, literal_of, starts_with, value_asked, value_of_test, values_asked, values_from}
 
 -- ---- what a tuple has that meets tests
 

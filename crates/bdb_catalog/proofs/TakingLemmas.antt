@@ -38,6 +38,7 @@ use Rattle.bdb_tables.specs.Names.{Names, path_of, number_of, is_named}
 use Rattle.bdb_tables.specs.Rows.{Tuples, AreKeyLengths}
 use Rattle.bdb_tables.specs.Spans.{AreUnder}
 use Rattle.bdb_tables.specs.Stored.{StoredAs}
+use Rattle.bdb_tables.specs.Prefixes.{key_prefix}
 use Rattle.bdb_tables.proofs.Fitting.{relation_row}
 use Rattle.bdb_update.proofs.KeyLemmas.{lengths_fit}
 use Rattle.bdb_update.proofs.OneStored.{consistent}
@@ -46,7 +47,7 @@ use Rattle.bdb_val.specs.Reads.{IsSpan}
 use Rattle.bdb_worlds.specs.Bounds.{EndsWithin}
 use Rattle.bdb_catalog.specs.Bases.{HasUsers}
 use Rattle.bdb_catalog.specs.Showing.{FindsState, IsStateOf}
-use Rattle.bdb_catalog.specs.Taking.{AreTuplesRead, AreTuplesOf, key_prefix, is_asked, is_said, rows_asked, rows_said, statements_of, values_asked}
+use Rattle.bdb_catalog.specs.Taking.{AreTuplesRead, AreTuplesOf, is_asked, is_said, rows_asked, rows_said, statements_of, values_asked}
 use Rattle.bdb_catalog.proofs.AskingLemmas.{meets_asked, asked_rel, asked_span, few_asked, none_meets}
 use Rattle.bdb_catalog.proofs.RowLemmas.{tuples_are_stated, stated_are_read, rows_within, tuples_within, as_many}
 use Rattle.bdb_catalog.proofs.ShowingLemmas.{nothing_explicit}

@@ -1,5 +1,5 @@
 -- The statements that a delete or an update takes, as they are read from the rows of the world of their path.
-use Rattle.std.specs.Prelude.{◌≡◌, ℕ, suc, ◌+◌, ◌≤◌, Bool, ◌&&◌, nat_eq, List, [], ◌∷◌, ◌++◌, length, map, filter, take, Option, None, Some, cond}
+use Rattle.std.specs.Prelude.{◌≡◌, ℕ, suc, ◌+◌, ◌≤◌, Bool, ◌&&◌, nat_eq, List, [], ◌∷◌, length, map, filter, take, Option, None, Some, cond}
 use Prim.Native.Nat.{zero}
 use Rattle.bdb_base.specs.Bases.{Contents, key_lengths}
 use Rattle.bdb_base.specs.Changes.{taken_by}
@@ -21,7 +21,6 @@ use Rattle.bdb_base.specs.declared.tuple.Tuple.{Tuple}
 use Rattle.bdb_base.specs.SameLemmas.{statement_of}
 use Rattle.bdb_keep.specs.Seen.{Seen}
 use Rattle.bdb_keep.specs.Tables.{Tables}
-use Rattle.bdb_key.specs.Bytes.{num_bytes, values_bytes}
 use Rattle.bdb_tables.specs.Codec.{HasRow}
 use Rattle.bdb_tables.specs.InUse.{ValKey, tuple_codec, val_codec}
 use Rattle.bdb_tables.specs.Marks.{Mark}
@@ -72,10 +71,6 @@ starts_with n vs key = nat_eq (length key) n && same_values (take (length vs) ke
 -- a tuple is of a relation, and its key, which is as long as the relation's keys, begins with these values
 abbrev pub is_asked : (ℕ → ℕ) → ℕ → List Value → Tuple → Bool
 is_asked keys rel vs u = nat_eq u.rel rel && starts_with (keys rel) vs (key_of keys u)
-
--- how the keys of a world's rows of a relation begin whose tuples have a key of some length that begins with these values
-abbrev pub key_prefix : ℕ → ℕ → ℕ → List Value → List ℕ
-key_prefix n wid rel vs = num_bytes wid ++ num_bytes rel ++ num_bytes n ++ values_bytes vs
 
 -- ---- rows and their tuples
 

@@ -30,13 +30,14 @@ use Rattle.bdb_tables.specs.InUseLaws.{vals_are_one, mark_rows_are_one}
 use Rattle.bdb_tables.specs.Marks.{Mark}
 use Rattle.bdb_tables.specs.Names.{leads_to}
 use Rattle.bdb_tables.specs.Spans.{AreUnder, IsUnder}
+use Rattle.bdb_tables.specs.Prefixes.{key_prefix}
 use Rattle.bdb_base.specs.Bases.{is_written}
 use Rattle.bdb_tables.proofs.PartLemmas.{vals_form}
 use Rattle.bdb_tables.proofs.PrefixLemmas.{values_part, all_written}
 use Rattle.bdb_tables.proofs.ListLemmas.{prefix_append, prefix_rest}
 use Rattle.bdb_exec.specs.Keys.{begins_so, of_key, rows_of_key}
 use Rattle.bdb_exec.specs.Readable.{CanBeRun}
-use Rattle.bdb_exec.specs.Rows.{IsNumberOf, signed_of, mark_denies, row_denies, relation_prefix, key_prefix}
+use Rattle.bdb_exec.specs.Rows.{IsNumberOf, signed_of, mark_denies, row_denies, relation_prefix}
 use Rattle.bdb_exec.specs.Seen.{rows_at, signed_in, signed_under, sight_of}
 use Rattle.bdb_exec.proofs.LengthLemmas.{keys_sized, take_whole}
 use Rattle.bdb_exec.proofs.TypedLemmas.{raw}

@@ -6,10 +6,9 @@ use Rattle.bdb_base.specs.Bases.{live_name}
 use Rattle.bdb_base.specs.declared.kinds.Sign.{Sign}
 use Rattle.bdb_base.specs.declared.kinds.Sign.TheVariants.{Plus, Minus}
 use Rattle.bdb_base.specs.declared.kinds.UserSlot.{UserSlot}
-use Rattle.bdb_base.specs.declared.kinds.Value.{Value}
 use Rattle.bdb_base.specs.declared.tuple.Tuple.{Tuple}
 use Rattle.bdb_keep.specs.Tables.{Tables}
-use Rattle.bdb_key.specs.Bytes.{num_bytes, values_bytes}
+use Rattle.bdb_key.specs.Bytes.{num_bytes}
 use Rattle.bdb_key.specs.Grammar.{IsNum}
 use Rattle.bdb_queries.specs.Slots.{user_tuple}
 use Rattle.bdb_tables.specs.Codec.{HasRow, place}
@@ -26,10 +25,6 @@ tuple_of_slot e = option_map (user_tuple e.0) (live_name e.1)
 -- how the keys of a world's rows of a relation begin
 abbrev pub relation_prefix : ℕ → ℕ → List ℕ
 relation_prefix world rel = num_bytes world ++ num_bytes rel
-
--- how the keys of those rows begin whose tuples have a key of some length that begins with these values
-abbrev pub key_prefix : ℕ → ℕ → ℕ → List Value → List ℕ
-key_prefix n world rel vs = relation_prefix world rel ++ num_bytes n ++ values_bytes vs
 
 -- a row's signed tuple, as the tables show it
 abbrev pub signed_of : Tables → ValKey × Mark → Tuple × Sign

@@ -6,12 +6,12 @@ use Rattle.bdb_key.specs.Grammar.{ArePlain}
 use Rattle.bdb_tables.specs.Grammar.{InGrammar}
 use Rattle.bdb_tables.specs.Lengths.{IsKeyLength}
 use Rattle.bdb_base.specs.Bases.{is_written}
-use Rattle.bdb_tables.specs.Prefixes.{HasPutValues}
+use Rattle.bdb_tables.specs.Prefixes.{HasPutValues, key_prefix}
 use Rattle.bdb_val.specs.Reads.{HaveTuples}
 use Rattle.bdb_worlds.specs.Bounds.{EndsWithin}
 use Rattle.bdb_worlds.specs.Holding.{HoldSome}
 use Rattle.bdb_catalog.specs.Showing.{FindsState}
-use Rattle.bdb_catalog.specs.Taking.{AreTuplesRead, key_prefix, statements_of, values_asked}
+use Rattle.bdb_catalog.specs.Taking.{AreTuplesRead, statements_of, values_asked}
 use Rattle.bdb_catalog.proofs.StoredFacts.{path_grammar, path_states, path_tuples}
 use Rattle.bdb_catalog.proofs.TakingLemmas.{none_at_paths, none_with_values, one_read_more, read_are_taken, reads_are_few}
 use Rattle.bdb_catalog.proofs.taking.taken.Goals as goal

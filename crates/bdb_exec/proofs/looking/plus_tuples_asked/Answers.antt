@@ -3,9 +3,9 @@ use Rattle.std.specs.List.{list_all}
 use Rattle.bdb_key.specs.Bytes.{num_bytes, values_bytes}
 use Rattle.bdb_plan.specs.Running.{plus_tuples}
 use Rattle.bdb_exec.specs.Keys.{values_behind}
-use Rattle.bdb_exec.specs.Rows.{key_prefix, relation_prefix}
+use Rattle.bdb_exec.specs.Rows.{relation_prefix}
 use Rattle.bdb_base.specs.Bases.{is_written}
-use Rattle.bdb_tables.specs.Prefixes.{HasPutValues}
+use Rattle.bdb_tables.specs.Prefixes.{HasPutValues, key_prefix}
 use Rattle.bdb_exec.specs.Seen.{sight_of, signed_under}
 use Rattle.bdb_exec.proofs.DenyLemmas.{key_tuples, key_rows, unwritten}
 use Rattle.bdb_exec.proofs.PrefixLemmas.{few_asked}
