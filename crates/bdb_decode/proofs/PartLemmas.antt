@@ -40,7 +40,7 @@ use Rattle.bdb_entries.proofs.ReadLemmas.{past, under_fits}
 use Rattle.bdb_entries.proofs.TupleLemmas.{holding, item_all, item_in, items_give}
 use Rattle.bdb_graph.specs.Naming.{AreWorlds, names_of, path_in}
 use Rattle.bdb_graph.specs.Ups.{HoldNoStates}
-use Rattle.bdb_graph.specs.declared.naming.NamedWorld.{NamedWorld}
+use Rattle.bdb_names.specs.declared.named.NamedWorld.{NamedWorld}
 use Rattle.bdb_graph.proofs.HeldLemmas.{held_so, named_same, worlds_are_held}
 use Rattle.bdb_decode.specs.Explicit.{AreStated, Paths, TupleRows}
 use Rattle.bdb_decode.specs.ExplicitLaws.{HavePaths}

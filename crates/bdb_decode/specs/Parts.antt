@@ -15,7 +15,7 @@ use Rattle.bdb_entries.specs.Catalog.{HasCatalog}
 use Rattle.bdb_entries.specs.Format.{HasFormat}
 use Rattle.bdb_entries.specs.Reading.{OthersAreBare}
 use Rattle.bdb_entries.specs.Tuples.{AreTuples}
-use Rattle.bdb_graph.specs.declared.naming.NamedWorld.{NamedWorld}
+use Rattle.bdb_names.specs.declared.named.NamedWorld.{NamedWorld}
 use Rattle.bdb_decode.specs.Explicit.{Paths, TupleRows}
 use Rattle.bdb_decode.specs.ExplicitLaws.{HavePaths}
 use Rattle.bdb_decode.specs.Items.{number_cmp}

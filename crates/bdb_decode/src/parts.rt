@@ -9,8 +9,9 @@ ghost use Rattle.bdb_decode.specs.Parts.{AreParts, ArePaths, HoldNoneOver, Store
 use crate::limits::worlds_are_within_limits;
 use bdb_base::{Catalog, Path, Tuple, UserSlot};
 use bdb_entries::{raw_catalog, raw_tuples};
-use bdb_graph::{NamedWorld, are_states_held, raw_worlds};
+use bdb_graph::{are_states_held, raw_worlds};
 use bdb_keep::Keeper;
+use bdb_names::NamedWorld;
 use bdb_tables::TabError;
 use std::alloc::{AllocError, Global};
 

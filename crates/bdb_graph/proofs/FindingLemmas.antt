@@ -20,7 +20,7 @@ use Rattle.bdb_tables.specs.Names.{AreNames, is_named, leads_to}
 use Rattle.bdb_names.proofs.NameLemmas.{deep_number}
 use Rattle.bdb_graph.specs.Naming.{names_of, number_in, path_in}
 use Rattle.bdb_graph.specs.States.{AreIndexed, ArePathsOf, IsWorldOf, is_world, number_of_world, target_of}
-use Rattle.bdb_graph.specs.declared.naming.NamedWorld.{NamedWorld}
+use Rattle.bdb_names.specs.declared.named.NamedWorld.{NamedWorld}
 use Rattle.bdb_graph.proofs.NumberLemmas.{all_at, lt_differs}
 
 -- ---- lists

@@ -21,7 +21,7 @@ use Rattle.bdb_entries.proofs.ReadLemmas.{past}
 use Rattle.bdb_entries.proofs.TupleLemmas.{holding}
 use Rattle.bdb_graph.specs.Naming.{names_of, path_in}
 use Rattle.bdb_graph.specs.States.{AllKeysPass, AreIndexed, HasLink, IsWorldOf, is_right, is_world, link_from}
-use Rattle.bdb_graph.specs.declared.naming.NamedWorld.{NamedWorld}
+use Rattle.bdb_names.specs.declared.named.NamedWorld.{NamedWorld}
 use Rattle.bdb_graph.proofs.FindingLemmas.{all_by_place, each_at, member_is, world_at, world_fits}
 use Rattle.bdb_graph.proofs.PassLemmas.{no_row, row_told}
 

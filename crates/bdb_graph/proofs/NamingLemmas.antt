@@ -24,7 +24,7 @@ use Rattle.bdb_names.proofs.NameLemmas.{depth_at, path_is_named}
 use Rattle.bdb_entries.proofs.TupleLemmas.{item_in, items_give}
 use Rattle.bdb_graph.specs.Naming.{AreNamedUps, IsClimbed, IsNamedUp, TellNames, climb, climbed_as, named_as, number_of_up, path_in, up_in}
 use Rattle.bdb_graph.specs.Ups.{AreUps, HasDepth, HasFront, HoldNoStates, TellsUp, depth_row}
-use Rattle.bdb_graph.specs.declared.naming.NamedWorld.{NamedWorld}
+use Rattle.bdb_names.specs.declared.named.NamedWorld.{NamedWorld}
 use Rattle.bdb_graph.specs.declared.ups.Up.{Up}
 use Rattle.bdb_graph.proofs.NumberLemmas.{all_at, lt_differs}
 use Rattle.bdb_graph.proofs.UpLemmas.{path_deep, rows_have_depths}

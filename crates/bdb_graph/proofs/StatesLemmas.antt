@@ -19,7 +19,7 @@ use Rattle.bdb_graph.specs.Naming.{AreWorlds, names_of}
 use Rattle.bdb_graph.specs.States.{AreIndexed, ArePathsOf, have_own_paths}
 use Rattle.bdb_graph.specs.Turning.{TurnRound}
 use Rattle.bdb_graph.specs.Ups.{HoldNoStates}
-use Rattle.bdb_graph.specs.declared.naming.NamedWorld.{NamedWorld}
+use Rattle.bdb_names.specs.declared.named.NamedWorld.{NamedWorld}
 use Rattle.bdb_graph.proofs.FindingLemmas.{all_by_place, path_all, world_at}
 
 -- the worlds of tables are found by their numbers and their paths

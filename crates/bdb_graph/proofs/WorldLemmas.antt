@@ -30,7 +30,7 @@ use Rattle.bdb_entries.proofs.TupleLemmas.{given_is, item_in, items_give}
 use Rattle.bdb_graph.specs.Leading.{AreLedUps, HasEdge, IsLed, has_root}
 use Rattle.bdb_graph.specs.Naming.{AreNamedUps, AreWorlds, IsClimbed, climb, climbed_as, named_as, names_of, number_in, number_of_up, path_in, up_in}
 use Rattle.bdb_graph.specs.Ups.{AreUps, HasDepth, HasStart, HoldNoStates, StartsAt, depth_row}
-use Rattle.bdb_graph.specs.declared.naming.NamedWorld.{NamedWorld}
+use Rattle.bdb_names.specs.declared.named.NamedWorld.{NamedWorld}
 use Rattle.bdb_graph.specs.declared.ups.Up.{Up}
 use Rattle.bdb_graph.proofs.LeadingLemmas.{all_are_led}
 use Rattle.bdb_graph.proofs.NamingLemmas.{all_mapped, items_of_ups, names_known, no_names, numbers_kept, paths_of_ups, up_of_path, up_tells, ups_ascend}

@@ -4,7 +4,7 @@ use Rattle.bdb_keep.specs.Tables.{Tables}
 use Rattle.bdb_tables.specs.Names.{Names}
 use Rattle.bdb_tables.specs.States.{HoldsStates}
 use Rattle.bdb_graph.specs.Naming.{AreWorlds, names_of}
-use Rattle.bdb_graph.specs.declared.naming.NamedWorld.{NamedWorld}
+use Rattle.bdb_names.specs.declared.named.NamedWorld.{NamedWorld}
 
 -- whichever states tables hold, they hold those of their worlds
 abbrev pub WorldsAreHeld : Type 0

@@ -11,7 +11,7 @@ use Rattle.bdb_tables.specs.InUse.{depth_codec}
 use Rattle.bdb_tables.specs.Names.{Names, AreNames, path_of, depth_of}
 use Rattle.bdb_tables.specs.Writes.{Gives}
 use Rattle.bdb_tables.specs.States.{HoldsStates}
-use Rattle.bdb_graph.specs.declared.naming.NamedWorld.{NamedWorld}
+use Rattle.bdb_names.specs.declared.named.NamedWorld.{NamedWorld}
 use Rattle.bdb_graph.specs.declared.ups.Up.{Up}
 
 -- the number of a world

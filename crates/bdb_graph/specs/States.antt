@@ -15,7 +15,7 @@ use Rattle.bdb_tables.specs.InUse.{edge_codec, link_codec}
 use Rattle.bdb_tables.specs.Names.{Names, AreNames, edge_of, is_named, leads_to, link_of, number_of}
 use Rattle.bdb_tables.specs.Spans.{IsNextUnder, NoneUnder}
 use Rattle.bdb_graph.specs.Naming.{names_of, path_in}
-use Rattle.bdb_graph.specs.declared.naming.NamedWorld.{NamedWorld}
+use Rattle.bdb_names.specs.declared.named.NamedWorld.{NamedWorld}
 
 -- ---- worlds by number and by path
 

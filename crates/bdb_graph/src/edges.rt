@@ -16,9 +16,9 @@ ghost use Rattle.bdb_graph.specs.Naming.{names_of};
 ghost use Rattle.bdb_graph.specs.States.{AllKeysPass, AreIndexed, HasEdgeFor, HasEdges, HasNextKey, IsWorldOf, is_edge_key, is_right, number_of_world};
 
 use crate::finding::{is_world, leads_to};
-use crate::naming::NamedWorld;
 use bdb_base::{Path, UserSlot, is_user, path_is_suffix};
 use bdb_keep::Keeper;
+use bdb_names::NamedWorld;
 use bdb_tables::{EdgeTab, TabError, get, next_under};
 use std::alloc::{AllocError, Global};
 

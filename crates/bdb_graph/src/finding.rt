@@ -8,10 +8,10 @@ ghost use Rattle.bdb_tables.specs.Names.{leads_to};
 ghost use Rattle.bdb_graph.specs.Naming.{names_of};
 ghost use Rattle.bdb_graph.specs.States.{AreIndexed, ArePathsOf, have_own_paths, is_world, number_of_world, target_of};
 
-use crate::naming::NamedWorld;
 use crate::numbers::place_of_number;
 use bdb_base::{List, Path, UserSlot, cmp_path, put_copy};
 use bdb_entries::are_users;
+use bdb_names::NamedWorld;
 use bdb_paths::deepest_suffix_in_set;
 use std::alloc::{AllocError, Global};
 

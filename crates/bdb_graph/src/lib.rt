@@ -15,7 +15,6 @@ mod ups;
 mod worlds;
 
 pub use laws::worlds_are_held;
-pub use naming::NamedWorld;
 pub use numbers::{HasNumber, place_of_number};
 pub use states::are_states_held;
 pub use turning::are_turned_round;

@@ -14,9 +14,9 @@ ghost use Rattle.bdb_graph.specs.Naming.{names_of};
 ghost use Rattle.bdb_graph.specs.States.{AllKeysPass, AreIndexed, HasLink, HasNextKey, IsWorldOf, is_right, is_world, link_from, number_of_world};
 
 use crate::finding::{is_world, leads_to};
-use crate::naming::NamedWorld;
 use bdb_base::Path;
 use bdb_keep::Keeper;
+use bdb_names::NamedWorld;
 use bdb_tables::{SuffixTab, TabError, get, next_under};
 use std::alloc::Global;
 

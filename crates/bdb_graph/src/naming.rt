@@ -9,14 +9,8 @@ use crate::leading::copy_of;
 use crate::numbers::{HasNumber, place_of_number};
 use crate::ups::Up;
 use bdb_base::{Path, PathError};
+use bdb_names::NamedWorld;
 use std::alloc::{AllocError, Global};
-
-/// A world: its number, and the path whose world it is.
-#[derive(Drop)]
-pub struct NamedWorld {
-    pub wid: u32,
-    pub path: Path,
-}
 
 impl HasNumber for NamedWorld {
     ghost number_of = { λ x. x.wid };

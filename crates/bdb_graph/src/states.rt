@@ -12,10 +12,10 @@ ghost use Rattle.bdb_graph.specs.States.{AreIndexed};
 use crate::edges::are_edges_held;
 use crate::finding::{have_own_paths, paths_of};
 use crate::links::are_links_held;
-use crate::naming::NamedWorld;
 use crate::turning::are_turned_round;
 use bdb_base::{Path, UserSlot};
 use bdb_keep::Keeper;
+use bdb_names::NamedWorld;
 use bdb_tables::TabError;
 use std::alloc::Global;
 

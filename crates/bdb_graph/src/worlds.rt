@@ -6,8 +6,9 @@ ghost use Rattle.bdb_graph.specs.Naming.{AreWorlds};
 ghost use Rattle.bdb_graph.specs.Ups.{HoldNoStates};
 
 use crate::leading::led_ups;
-use crate::naming::{NamedWorld, named_ups};
+use crate::naming::named_ups;
 use bdb_keep::Keeper;
+use bdb_names::NamedWorld;
 use bdb_tables::TabError;
 use std::alloc::Global;
 

@@ -31,7 +31,7 @@ use Rattle.bdb_tables.proofs.UsedLemmas.{AllNamed, rest_named, first_named}
 use Rattle.bdb_stored.specs.Items.{items_of}
 use Rattle.bdb_catalog.specs.Bases.{StoresSome, StoresValid}
 use Rattle.bdb_stored.specs.Worlds.{TellsStates, named_world}
-use Rattle.bdb_stored.specs.declared.named.NamedWorld.{NamedWorld}
+use Rattle.bdb_names.specs.declared.named.NamedWorld.{NamedWorld}
 use Rattle.bdb_stored.proofs.CountingLemmas.{numbers_of, one_path, paths_are_states, wids_named, wids_once}
 use Rattle.bdb_stored.proofs.ItemLemmas.{AreApart, items_apart, items_cons}
 use Rattle.bdb_stored.proofs.KeyLemmas.{rows_are_items}

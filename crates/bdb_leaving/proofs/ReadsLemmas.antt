@@ -17,7 +17,7 @@ use Rattle.bdb_update.proofs.KeyLemmas.{lengths_fit}
 use Rattle.bdb_val.specs.WorldReads.{AreRowsAt}
 use Rattle.bdb_catalog.specs.Bases.{StoresValid}
 use Rattle.bdb_stored.specs.Worlds.{IsState, TellsStates, named_world}
-use Rattle.bdb_stored.specs.declared.named.NamedWorld.{NamedWorld}
+use Rattle.bdb_names.specs.declared.named.NamedWorld.{NamedWorld}
 use Rattle.bdb_stored.proofs.PlaceLemmas.{at_place}
 use Rattle.bdb_leaving.specs.Naming.{ReadsAt, ReadsNaming, ReadsRows, reads_at}
 use Rattle.bdb_leaving.specs.Paths.{path_lengths}

@@ -9,7 +9,7 @@ use Rattle.bdb_keep.specs.Tables.{Tables}
 use Rattle.bdb_tables.specs.Codec.{place}
 use Rattle.bdb_tables.specs.InUse.{IsTriple, led_codec}
 use Rattle.bdb_tables.specs.States.{IsNamed}
-use Rattle.bdb_stored.specs.declared.named.NamedWorld.{NamedWorld}
+use Rattle.bdb_names.specs.declared.named.NamedWorld.{NamedWorld}
 
 -- the edge of a world for a user leads to a world
 pub record IsLedBy (t : Tables) (wid from user : ℕ) : Type 0 where

@@ -13,7 +13,7 @@ ghost use Rattle.bdb_val.specs.Steps.{IsChanging};
 use crate::paths::worlds_by_edges;
 use bdb_base::{Exact, Held, List, Path, Stmt, names_user};
 use bdb_keep::Keeper;
-use bdb_stored::NamedWorld;
+use bdb_names::NamedWorld;
 use bdb_tables::TabError;
 use bdb_val::world_at;
 use std::alloc::{AllocError, Global};

@@ -13,7 +13,7 @@ ghost use Rattle.bdb_tables.specs.Reading.{OnlyReads};
 
 use bdb_base::{Path, PathError, cmp_path};
 use bdb_keep::Keeper;
-use bdb_stored::NamedWorld;
+use bdb_names::NamedWorld;
 use bdb_tables::{DepthTab, EdgeIx, Room, TabError, next_in, rows_under};
 use std::alloc::{AllocError, Global};
 use std::cmp::Ordering;

@@ -1,2 +1,6 @@
-//! What holds of the names of stored worlds: how suffix links and edges change with a state.
+//! What holds of the names of stored worlds: how suffix links and edges change with a state; and a world with its path.
 #![tactic(auto)]
+
+mod named;
+
+pub use named::NamedWorld;

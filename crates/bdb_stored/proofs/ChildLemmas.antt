@@ -23,7 +23,7 @@ use Rattle.bdb_stored.specs.Items.{with_item, items_of}
 use Rattle.bdb_stored.specs.Tree.{child_of}
 use Rattle.bdb_catalog.specs.Bases.{StoresValid}
 use Rattle.bdb_stored.specs.Worlds.{named_world, TellsChild, TellsChildren}
-use Rattle.bdb_stored.specs.declared.named.NamedWorld.{NamedWorld}
+use Rattle.bdb_names.specs.declared.named.NamedWorld.{NamedWorld}
 
 -- ---- one edge
 

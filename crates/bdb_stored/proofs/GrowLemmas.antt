@@ -16,7 +16,7 @@ use Rattle.bdb_stored.specs.Tree.{children_of, grown_from}
 use Rattle.bdb_catalog.specs.Bases.{StoresSome, StoresValid}
 use Rattle.bdb_catalog.specs.Opening.{IsPartOf}
 use Rattle.bdb_stored.specs.Worlds.{TellsChildren, TellsStates, named_world}
-use Rattle.bdb_stored.specs.declared.named.NamedWorld.{NamedWorld}
+use Rattle.bdb_names.specs.declared.named.NamedWorld.{NamedWorld}
 use Rattle.bdb_stored.proofs.PlaceLemmas.{all_get, get_named, path_named, state_named, states_named}
 use Rattle.bdb_stored.proofs.TreeLemmas.{grown_has, grown_more, grown_whole, grown_reads}
 use Rattle.bdb_stored.proofs.UserLemmas.{numbers_are_users, user_is_listed, users_rise}

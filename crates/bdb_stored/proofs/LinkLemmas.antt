@@ -29,7 +29,7 @@ use Rattle.bdb_stored.specs.Structure.{TellsEdge, TellsEdges, TellsLink, edges_o
 use Rattle.bdb_catalog.specs.Bases.{StoresValid}
 use Rattle.bdb_catalog.specs.Opening.{IsPartOf}
 use Rattle.bdb_stored.specs.Worlds.{AreStates, TellsStates, place_of_number}
-use Rattle.bdb_stored.specs.declared.named.NamedWorld.{NamedWorld}
+use Rattle.bdb_names.specs.declared.named.NamedWorld.{NamedWorld}
 use Rattle.bdb_stored.proofs.ChildLemmas.{edge_is_read, end_is, users_less}
 use Rattle.bdb_stored.proofs.PlaceLemmas.{at_place, place_of_state, state_named}
 use Rattle.bdb_stored.proofs.UserLemmas.{numbers_are_users}

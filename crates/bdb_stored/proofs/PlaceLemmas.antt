@@ -23,7 +23,7 @@ use Rattle.bdb_paths.proofs.StateLemmas.{list_has_states}
 use Rattle.bdb_tables.specs.Names.{Names, AreNames, path_of, number_of, is_named}
 use Rattle.bdb_catalog.specs.Bases.{StoresSome, StoresValid}
 use Rattle.bdb_stored.specs.Worlds.{AreStates, IsState, TellsStates, named_world, place_of_number}
-use Rattle.bdb_stored.specs.declared.named.NamedWorld.{NamedWorld}
+use Rattle.bdb_names.specs.declared.named.NamedWorld.{NamedWorld}
 
 -- ---- what a search finds
 

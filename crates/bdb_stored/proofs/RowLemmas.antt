@@ -16,7 +16,7 @@ use Rattle.bdb_val.specs.WorldReads.{AreRowsAt}
 use Rattle.bdb_stored.specs.Structure.{row_placed, rows_of}
 use Rattle.bdb_catalog.specs.Opening.{IsPartOf}
 use Rattle.bdb_stored.specs.Worlds.{TellsStates}
-use Rattle.bdb_stored.specs.declared.named.NamedWorld.{NamedWorld}
+use Rattle.bdb_names.specs.declared.named.NamedWorld.{NamedWorld}
 use Rattle.bdb_stored.proofs.LinkLemmas.{flat_more}
 use Rattle.bdb_stored.proofs.PlaceLemmas.{at_place}
 use Rattle.bdb_update.proofs.KeyLemmas.{lengths_fit}

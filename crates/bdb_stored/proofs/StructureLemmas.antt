@@ -18,7 +18,7 @@ use Rattle.bdb_stored.specs.Structure.{edges_of, rows_of, worlds_with_links}
 use Rattle.bdb_catalog.specs.Bases.{StoresSome, StoresValid}
 use Rattle.bdb_catalog.specs.Opening.{IsPartOf}
 use Rattle.bdb_stored.specs.Worlds.{TellsStates}
-use Rattle.bdb_stored.specs.declared.named.NamedWorld.{NamedWorld}
+use Rattle.bdb_names.specs.declared.named.NamedWorld.{NamedWorld}
 use Rattle.bdb_stored.proofs.UserLemmas.{few_numbers}
 
 -- there are few states

@@ -20,7 +20,7 @@ use Rattle.bdb_paths.specs.Places.{place_in}
 use Rattle.bdb_stored.specs.Items.{with_item}
 use Rattle.bdb_catalog.specs.Bases.{StoresValid}
 use Rattle.bdb_stored.specs.Worlds.{AreStates, IsState}
-use Rattle.bdb_stored.specs.declared.named.NamedWorld.{NamedWorld}
+use Rattle.bdb_names.specs.declared.named.NamedWorld.{NamedWorld}
 
 -- a row is that of a live user
 abbrev pub is_live : ℕ × UserSlot → Bool

@@ -8,7 +8,7 @@ use Rattle.bdb_keep.specs.Tables.{Tables}
 use Rattle.bdb_tables.specs.Names.{Names, path_of, number_of, is_named}
 use Rattle.bdb_stored.specs.Tree.{child_of, children_of}
 use Rattle.bdb_catalog.specs.Bases.{StoresValid}
-use Rattle.bdb_stored.specs.declared.named.NamedWorld.{NamedWorld}
+use Rattle.bdb_names.specs.declared.named.NamedWorld.{NamedWorld}
 
 -- the world of a path, with its number
 abbrev pub named_world : Names → List ℕ → NamedWorld

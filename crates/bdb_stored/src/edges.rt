@@ -10,10 +10,11 @@ ghost use Rattle.bdb_catalog.specs.Opening.{IsPartOf};
 ghost use Rattle.bdb_stored.specs.Worlds.{TellsStates};
 
 use crate::items::push_item;
-use crate::named::{NamedWorld, place_of_number};
+use crate::named::place_of_number;
 use bdb_base::List;
 use bdb_canon::CanonEdge;
 use bdb_keep::Keeper;
+use bdb_names::NamedWorld;
 use bdb_tables::{EdgeTab, TabError, get};
 use std::alloc::Global;
 

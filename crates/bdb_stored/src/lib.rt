@@ -16,7 +16,7 @@ mod worlds;
 mod writing;
 
 pub use counting::counts_of;
-pub use named::{NamedWorld, place_of_number};
+pub use named::place_of_number;
 pub use structure::canon_of;
 pub use users::user_numbers;
 pub use worlds::worlds_in_order;

@@ -9,10 +9,11 @@ ghost use Rattle.bdb_stored.specs.Structure.{TellsLink, worlds_with_links};
 ghost use Rattle.bdb_catalog.specs.Opening.{IsPartOf};
 ghost use Rattle.bdb_stored.specs.Worlds.{TellsStates, place_of_number};
 
-use crate::named::{NamedWorld, place_of_number};
+use crate::named::place_of_number;
 use bdb_base::{Exact, List};
 use bdb_canon::CanonWorld;
 use bdb_keep::Keeper;
+use bdb_names::NamedWorld;
 use bdb_tables::{SuffixTab, TabError, get};
 use std::alloc::Global;
 

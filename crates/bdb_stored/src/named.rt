@@ -1,16 +1,9 @@
-// Worlds by number and path.
+// Worlds by number.
 ghost use Rattle.std.specs.Prelude.{◌≡◌, ◌≤◌, length, nat_eq};
 ghost use Rattle.std.specs.List.{position};
 ghost use Rattle.bdb_stored.specs.Worlds.{place_of_number};
 
-use bdb_base::Path;
-
-/// A world: its number, and the path whose world it is.
-#[derive(Drop)]
-pub struct NamedWorld {
-    pub wid: u32,
-    pub path: Path,
-}
+use bdb_names::NamedWorld;
 
 /// The place of the world of a number among worlds; their count where it is not there.
 pub fn place_of_number(worlds: &[NamedWorld], wid: u32) -> usize

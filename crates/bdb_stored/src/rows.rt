@@ -11,10 +11,10 @@ ghost use Rattle.bdb_stored.specs.Structure.{row_placed, rows_of};
 ghost use Rattle.bdb_catalog.specs.Opening.{IsPartOf};
 ghost use Rattle.bdb_stored.specs.Worlds.{TellsStates};
 
-use crate::named::NamedWorld;
 use bdb_base::{Held, List, Tuple, place_of};
 use bdb_canon::CanonRow;
 use bdb_keep::Keeper;
+use bdb_names::NamedWorld;
 use bdb_tables::TabError;
 use bdb_val::world_at;
 use std::alloc::{AllocError, Global};

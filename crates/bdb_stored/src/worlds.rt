@@ -11,9 +11,9 @@ ghost use Rattle.bdb_catalog.specs.Opening.{IsPartOf};
 ghost use Rattle.bdb_stored.specs.Worlds.{TellsChild, TellsChildren, TellsStates};
 
 use crate::items::push_item;
-use crate::named::NamedWorld;
 use bdb_base::{Path, PathError};
 use bdb_keep::Keeper;
+use bdb_names::NamedWorld;
 use bdb_tables::{DepthTab, EdgeTab, TabError, get, rows_under};
 use std::alloc::Global;
 

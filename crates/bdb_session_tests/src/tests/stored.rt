@@ -10,10 +10,10 @@ use bdb_base::{Base, append_decimal};
 use bdb_canon::{Canon, Counts};
 use bdb_keep::Keeper;
 use bdb_memory::QuietKeeper;
+use bdb_names::NamedWorld;
 use bdb_samples::{reported, text_of};
 use bdb_stored::{
-    NamedWorld, canon_of, counts_of, place_of_number, user_numbers, worlds_in_order,
-    write_all_tables,
+    canon_of, counts_of, place_of_number, user_numbers, worlds_in_order, write_all_tables,
 };
 use bdb_tables::TabError;
 use bdb_worlds::resolve;

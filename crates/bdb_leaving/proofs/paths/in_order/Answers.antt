@@ -3,7 +3,7 @@ use Rattle.std.specs.Ordering.{is_lt}
 use Rattle.std.proofs.lemmas.Fn.{always_returns_same}
 use Rattle.std.proofs.lemmas.List.Sorted.{ranks_by}
 use Rattle.bdb_base.specs.OrderLemmas.{path_exact}
-use Rattle.bdb_stored.specs.declared.named.NamedWorld.{NamedWorld}
+use Rattle.bdb_names.specs.declared.named.NamedWorld.{NamedWorld}
 use Rattle.bdb_leaving.specs.Paths.{is_before}
 use Rattle.bdb_leaving.proofs.paths.in_order.Goals as goal
 

@@ -9,7 +9,7 @@ use Rattle.bdb_stored.specs.Structure.{worlds_with_links}
 use Rattle.bdb_catalog.specs.Opening.{IsPartOf}
 use Rattle.bdb_catalog.proofs.OpeningLemmas.{some_grammar}
 use Rattle.bdb_stored.specs.Worlds.{TellsStates}
-use Rattle.bdb_stored.specs.declared.named.NamedWorld.{NamedWorld}
+use Rattle.bdb_names.specs.declared.named.NamedWorld.{NamedWorld}
 use Rattle.bdb_stored.proofs.CountingLemmas.{valid_has_tuples}
 use Rattle.bdb_stored.proofs.StructureLemmas.{linked_as_many, read_in_all, states_few, tuples_in_set, users_at_most}
 use Rattle.bdb_stored.proofs.structure.canon_of.Goals as goal
