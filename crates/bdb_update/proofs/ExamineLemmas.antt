@@ -4,6 +4,7 @@ use Rattle.std.specs.Prelude.{if◌then◌else◌}
 use Rattle.std.specs.List.{list_any}
 use Rattle.std.proofs.lemmas.Bool.{false≢true, false_from_ne_true, leb-true, cases_Bool, cases_lt, cond-true, cond-false, eqb-true, eq-eqb}
 use Rattle.std.proofs.lemmas.List.{take-append-drop, take_all}
+use Rattle.bdb_base.specs.Alternation.{alternates}
 use Rattle.bdb_base.specs.Bases.{Contents, stands, tuple_count, world_count}
 use Rattle.bdb_base.specs.Limits.{most_worlds, most_tuples, most_statements}
 use Rattle.bdb_base.specs.declared.kinds.Stmt.{Stmt}
@@ -12,16 +13,44 @@ use Rattle.bdb_base.specs.declared.kinds.What.TheVariants.{Worlds, Tuples, State
 use Rattle.bdb_canon.specs.Sizes.{counts_of}
 use Rattle.bdb_canon.specs.declared.sizes.Counts.{Counts}
 use Rattle.bdb_keep.specs.Tables.{Tables}
+use Rattle.bdb_key.specs.Rows.{MayBeTuple}
+use Rattle.bdb_tables.specs.Grammar.{InGrammar}
 use Rattle.bdb_tables.specs.Names.{number_of, is_named}
+use Rattle.bdb_tables.proofs.Fitting.{belonging_may_be}
+use Rattle.bdb_val.specs.Reads.{HaveTuples}
 use Rattle.bdb_val.specs.declared.stored.StoredRow.{StoredRow}
+use Rattle.bdb_worlds.specs.Holding.{HoldSome}
 use Rattle.bdb_worlds.specs.Reach.{ReachesState}
 use Rattle.bdb_update.specs.Calls.{MayMeet, SomeMayMeet, clash_of, size_passed, with_one}
 use Rattle.bdb_update.specs.Examining.{AreSizes, IsProspect, Examines}
 use Rattle.bdb_update.specs.Joining.{IsWorldFound, IsWorldIfAny}
 use Rattle.bdb_update.specs.Looking.{IsFinding, IsSmall, is_own, least_row, counts_with, filled_by, joined_by, judged_by, judged, state_of}
 use Rattle.bdb_update.specs.declared.looking.Finding.{Finding}
+use Rattle.bdb_update.proofs.GrammarLemmas.{stored_is_in_grammar}
 use Rattle.bdb_update.proofs.JudgeLemmas.{clash_found, no_clash_found, standing_found, none_standing, worlds_with, tuples_with, stmts_with}
-use Rattle.bdb_update.proofs.StageLemmas.{belongs_parts}
+use Rattle.bdb_update.proofs.StageLemmas.{belongs_parts, over_has_tuples}
+
+-- ---- what there is to know may be read
+
+pub record MayLook (t : Tables) (x : Stmt) : Type 0 where
+  pub grammar : InGrammar t
+  pub tuples : HaveTuples t
+  pub states : HoldSome t x.path
+  pub apart : alternates x.path ≡ true
+  pub tuple : MayBeTuple x.tuple
+
+pub may_look : (t : Tables) (counts : Counts) (x : Stmt) → SomeMayMeet t counts x → MayLook t x
+may_look t counts x h =
+    let b = h.base in
+    let s = h.may.base.stored in
+    let belongs = belongs_parts b.catalog x h.may.belongs in
+    record {
+      grammar = stored_is_in_grammar t b s;
+      tuples = over_has_tuples b.stmts b.stmts s.names s.tuples t b s.stored;
+      states = record { worlds = record { users = _; names = s.names }; states = s.stored.states; own = belongs.users };
+      apart = belongs.apart;
+      tuple = (belonging_may_be b.catalog x h.may.base.valid.catalog h.may.belongs).tuple;
+    }
 
 -- ---- limits
 

@@ -3,40 +3,28 @@ use Rattle.bdb_keep.specs.Tables.{Tables}
 use Rattle.bdb_update.specs.Keeping.{KeepsNumbers}
 use Rattle.bdb_tables.specs.Lengths.{IsKeyLength}
 use Rattle.bdb_tables.specs.declared.tab.TabError.TheVariants.{Fault}
-use Rattle.bdb_tables.proofs.Fitting.{belonging_may_be}
 use Rattle.bdb_tables.proofs.Loops.{goes_then}
 use Rattle.bdb_update.proofs.CallLemmas.{quiet_read}
-use Rattle.bdb_update.proofs.GrammarLemmas.{stored_is_in_grammar}
+use Rattle.bdb_update.proofs.ExamineLemmas.{may_look}
 use Rattle.bdb_update.proofs.LeaveLemmas.{some_may_part, world_now, drop_absent, drop_stops, drop_leaves, may_lose_now}
 use Rattle.bdb_update.proofs.SpendLemmas.{none_within, quiet_within}
-use Rattle.bdb_update.proofs.StageLemmas.{belongs_parts, over_has_tuples}
 use Rattle.bdb_update.proofs.StayLemmas.{keeps_same}
 use Rattle.bdb_update.proofs.leaving.try_drop.Goals as goal
 
 pub look-requires-clause-grammar : goal.look-requires-clause-grammar
-look-requires-clause-grammar g c = stored_is_in_grammar (g.K.Keeper.seen c.args.keeper.now).kept c.requires.base.base c.requires.base.may.base.stored
+look-requires-clause-grammar g c = (may_look (g.K.Keeper.seen c.args.keeper.now).kept c.args.counts.now c.args.stmt.now c.requires.base).grammar
 
 pub look-requires-clause-tuples : goal.look-requires-clause-tuples
-look-requires-clause-tuples g c =
-    let b = c.requires.base.base in
-    let s = c.requires.base.may.base.stored in
-    over_has_tuples b.stmts b.stmts s.names s.tuples (g.K.Keeper.seen c.args.keeper.now).kept b s.stored
+look-requires-clause-tuples g c = (may_look (g.K.Keeper.seen c.args.keeper.now).kept c.args.counts.now c.args.stmt.now c.requires.base).tuples
 
 pub look-requires-clause-states : goal.look-requires-clause-states
-look-requires-clause-states g c =
-    let b = c.requires.base.base in
-    let m = c.requires.base.may in
-    record {
-      worlds = record { users = _; names = m.base.stored.names };
-      states = m.base.stored.stored.states;
-      own = (belongs_parts b.catalog c.args.stmt.now m.belongs).users;
-    }
+look-requires-clause-states g c = (may_look (g.K.Keeper.seen c.args.keeper.now).kept c.args.counts.now c.args.stmt.now c.requires.base).states
 
 pub look-requires-clause-apart : goal.look-requires-clause-apart
-look-requires-clause-apart g c = (belongs_parts c.requires.base.base.catalog c.args.stmt.now c.requires.base.may.belongs).apart
+look-requires-clause-apart g c = (may_look (g.K.Keeper.seen c.args.keeper.now).kept c.args.counts.now c.args.stmt.now c.requires.base).apart
 
 pub look-requires-clause-tuple : goal.look-requires-clause-tuple
-look-requires-clause-tuple g c = (belonging_may_be c.requires.base.base.catalog c.args.stmt.now c.requires.base.may.base.valid.catalog c.requires.base.may.belongs).tuple
+look-requires-clause-tuple g c = (may_look (g.K.Keeper.seen c.args.keeper.now).kept c.args.counts.now c.args.stmt.now c.requires.base).tuple
 
 pub returns-in-Err-clause-tried : goal.returns-in-Err-clause-tried
 returns-in-Err-clause-tried g c =
