@@ -44,8 +44,8 @@ pub fn answer_act<O: Sink, K: Keeper>(
         (K.seen keeper.new).faults result RunError.Keeper }
     ensures later { O.faults out.old ≤ O.faults out.new }
     ensures sink { IsErrOf result RunError.Sink → Rose (O.faults out.old) (O.faults out.new) }
-    ensures others { OnErr result ((IsErrOf result RunError.Source → ⊥)
-        × (IsErrOf result RunError.Large → ⊥)) }
+    ensures source { OnErr result (IsErrOf result RunError.Source → ⊥) }
+    ensures large { OnErr result (IsErrOf result RunError.Large → ⊥) }
 {
     match act {
         Act::Begun => tell(out, number, b"begun\n", true),
@@ -66,8 +66,8 @@ pub fn tell<O: Sink>(out: &mut O, number: u8, line: &[u8], fine: bool) -> Result
         result }
     ensures later { O.faults out.old ≤ O.faults out.new }
     ensures sink { IsErrOf result RunError.Sink → Rose (O.faults out.old) (O.faults out.new) }
-    ensures others { OnErr result ((IsErrOf result RunError.Source → ⊥)
-        × (IsErrOf result RunError.Large → ⊥)) }
+    ensures source { OnErr result (IsErrOf result RunError.Source → ⊥) }
+    ensures large { OnErr result (IsErrOf result RunError.Large → ⊥) }
     ensures keeper { (n : ℕ) → HasCause n n result RunError.Keeper }
 {
     match write_line(out, number, line) {
@@ -81,8 +81,8 @@ pub fn tell_error<O: Sink>(out: &mut O, line: &[u8]) -> Result<bool, RunError>
     ensures told { IsTold line.now false (O.written out.old) (O.written out.new) result }
     ensures later { O.faults out.old ≤ O.faults out.new }
     ensures sink { IsErrOf result RunError.Sink → Rose (O.faults out.old) (O.faults out.new) }
-    ensures others { OnErr result ((IsErrOf result RunError.Source → ⊥)
-        × (IsErrOf result RunError.Large → ⊥)) }
+    ensures source { OnErr result (IsErrOf result RunError.Source → ⊥) }
+    ensures large { OnErr result (IsErrOf result RunError.Large → ⊥) }
     ensures keeper { (n : ℕ) → HasCause n n result RunError.Keeper }
 {
     match out.write_all(line) {
@@ -113,8 +113,8 @@ fn run_one<O: Sink, K: Keeper>(
         (K.seen keeper.new).faults result RunError.Keeper }
     ensures later { O.faults out.old ≤ O.faults out.new }
     ensures sink { IsErrOf result RunError.Sink → Rose (O.faults out.old) (O.faults out.new) }
-    ensures others { OnErr result ((IsErrOf result RunError.Source → ⊥)
-        × (IsErrOf result RunError.Large → ⊥)) }
+    ensures source { OnErr result (IsErrOf result RunError.Source → ⊥) }
+    ensures large { OnErr result (IsErrOf result RunError.Large → ⊥) }
 {
     let mut lines = List::new(alloc);
     match lines.push(command) {
@@ -153,8 +153,8 @@ fn run_batch<O: Sink, K: Keeper>(
         (K.seen keeper.new).faults result RunError.Keeper }
     ensures later { O.faults out.old ≤ O.faults out.new }
     ensures sink { IsErrOf result RunError.Sink → Rose (O.faults out.old) (O.faults out.new) }
-    ensures others { OnErr result ((IsErrOf result RunError.Source → ⊥)
-        × (IsErrOf result RunError.Large → ⊥)) }
+    ensures source { OnErr result (IsErrOf result RunError.Source → ⊥) }
+    ensures large { OnErr result (IsErrOf result RunError.Large → ⊥) }
 {
     let reply = match run(session, keeper, commands) {
         Ok(reply) => reply,
@@ -183,8 +183,9 @@ fn run<K: Keeper>(
     ensures never_fall { NeverFall (K.seen keeper.old) (K.seen keeper.new) }
     ensures keeper { HasCause (K.seen keeper.old).faults
         (K.seen keeper.new).faults result RunError.Keeper }
-    ensures others { OnErr result ((IsErrOf result RunError.Source → ⊥)
-        × (IsErrOf result RunError.Large → ⊥) × (IsErrOf result RunError.Sink → ⊥)) }
+    ensures source { OnErr result (IsErrOf result RunError.Source → ⊥) }
+    ensures large { OnErr result (IsErrOf result RunError.Large → ⊥) }
+    ensures sink { OnErr result (IsErrOf result RunError.Sink → ⊥) }
 {
     match session.apply_batch(keeper, commands) {
         Ok(reply) => Ok(reply),

@@ -78,8 +78,8 @@ impl Crowd {
             (K.seen keeper.new).faults result RunError.Keeper }
         ensures later { O.faults out.old ≤ O.faults out.new }
         ensures sink { IsErrOf result RunError.Sink → Rose (O.faults out.old) (O.faults out.new) }
-        ensures others { OnErr result ((IsErrOf result RunError.Source → ⊥)
-            × (IsErrOf result RunError.Large → ⊥)) }
+        ensures source { OnErr result (IsErrOf result RunError.Source → ⊥) }
+        ensures large { OnErr result (IsErrOf result RunError.Large → ⊥) }
     {
         match read {
             Read::Nothing => Ok(true),
@@ -111,8 +111,8 @@ impl Crowd {
             (K.seen keeper.new).faults result RunError.Keeper }
         ensures later { O.faults out.old ≤ O.faults out.new }
         ensures sink { IsErrOf result RunError.Sink → Rose (O.faults out.old) (O.faults out.new) }
-        ensures others { OnErr result ((IsErrOf result RunError.Source → ⊥)
-            × (IsErrOf result RunError.Large → ⊥)) }
+        ensures source { OnErr result (IsErrOf result RunError.Source → ⊥) }
+        ensures large { OnErr result (IsErrOf result RunError.Large → ⊥) }
     {
         match self.desk.step(number, line) {
             Ok(act) => answer_act(self.alloc, &mut self.session, keeper, out, number, act),

@@ -124,8 +124,8 @@ fn answer<O: Sink, K: Keeper>(
         (K.seen keeper.new).faults result RunError.Keeper }
     ensures later { O.faults out.old ≤ O.faults out.new }
     ensures sink { IsErrOf result RunError.Sink → Rose (O.faults out.old) (O.faults out.new) }
-    ensures others { OnErr result ((IsErrOf result RunError.Source → ⊥)
-        × (IsErrOf result RunError.Large → ⊥)) }
+    ensures source { OnErr result (IsErrOf result RunError.Source → ⊥) }
+    ensures large { OnErr result (IsErrOf result RunError.Large → ⊥) }
 {
     let reply = session.answer(keeper, event);
     match tell(out, reply) {
@@ -153,8 +153,8 @@ fn answer_command<O: Sink, K: Keeper>(
         (K.seen keeper.new).faults result RunError.Keeper }
     ensures later { O.faults out.old ≤ O.faults out.new }
     ensures sink { IsErrOf result RunError.Sink → Rose (O.faults out.old) (O.faults out.new) }
-    ensures others { OnErr result ((IsErrOf result RunError.Source → ⊥)
-        × (IsErrOf result RunError.Large → ⊥)) }
+    ensures source { OnErr result (IsErrOf result RunError.Source → ⊥) }
+    ensures large { OnErr result (IsErrOf result RunError.Large → ⊥) }
 {
     let reply = session.apply(keeper, bytes);
     match tell(out, reply) {
@@ -169,8 +169,8 @@ fn tell<O: Sink>(out: &mut O, reply: Result<Reply, StopError>) -> Result<bool, R
     ensures keeper { IsErrOf result RunError.Keeper → IsErrOf reply StopError.Fault }
     ensures later { O.faults out.old ≤ O.faults out.new }
     ensures sink { IsErrOf result RunError.Sink → Rose (O.faults out.old) (O.faults out.new) }
-    ensures others { OnErr result ((IsErrOf result RunError.Source → ⊥)
-        × (IsErrOf result RunError.Large → ⊥)) }
+    ensures source { OnErr result (IsErrOf result RunError.Source → ⊥) }
+    ensures large { OnErr result (IsErrOf result RunError.Large → ⊥) }
 {
     let reply = match reply {
         Ok(reply) => reply,

@@ -37,8 +37,8 @@ pub trait Handler {
             (K.seen keeper.new).faults result RunError.Keeper }
         ensures later { O.faults out.old ≤ O.faults out.new }
         ensures sink { IsErrOf result RunError.Sink → Rose (O.faults out.old) (O.faults out.new) }
-        ensures others { OnErr result ((IsErrOf result RunError.Source → ⊥)
-            × (IsErrOf result RunError.Large → ⊥)) };
+        ensures source { OnErr result (IsErrOf result RunError.Source → ⊥) }
+        ensures large { OnErr result (IsErrOf result RunError.Large → ⊥) };
 
     /// Answers what stands behind the last semicolon, and writes the reply.
     fn answer_rest<O: Sink, K: Keeper>(
@@ -59,8 +59,8 @@ pub trait Handler {
             (K.seen keeper.new).faults result RunError.Keeper }
         ensures later { O.faults out.old ≤ O.faults out.new }
         ensures sink { IsErrOf result RunError.Sink → Rose (O.faults out.old) (O.faults out.new) }
-        ensures others { OnErr result ((IsErrOf result RunError.Source → ⊥)
-            × (IsErrOf result RunError.Large → ⊥)) };
+        ensures source { OnErr result (IsErrOf result RunError.Source → ⊥) }
+        ensures large { OnErr result (IsErrOf result RunError.Large → ⊥) };
 
     // it handles several things one after the other
     ghost in_order: { IsInOrder handling };

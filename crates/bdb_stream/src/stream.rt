@@ -124,8 +124,8 @@ fn answer_block<H: Handler, K: Keeper, O: Sink>(
         (K.seen keeper.new).faults result RunError.Keeper }
     ensures later { O.faults out.old ≤ O.faults out.new }
     ensures sink { IsErrOf result RunError.Sink → Rose (O.faults out.old) (O.faults out.new) }
-    ensures others { OnErr result ((IsErrOf result RunError.Source → ⊥)
-        × (IsErrOf result RunError.Large → ⊥)) }
+    ensures source { OnErr result (IsErrOf result RunError.Source → ⊥) }
+    ensures large { OnErr result (IsErrOf result RunError.Large → ⊥) }
 {
     let mut rest = block;
     let mut fine = true;

@@ -7,7 +7,7 @@ use Rattle.bdb_crowd.proofs.acts.run_batch.Goals as goal
 pub returns-in-Err-clause-done : goal.returns-in-Err-clause-done
 returns-in-Err-clause-done g c = λ s a.
     unrun s (Batch c.args.commands.now) c.args.number c.args.commands.now c.run.new.session (g.K.Keeper.seen c.args.keeper.now) (g.K.Keeper.seen c.run.new.keeper) (g.O.Sink.written c.args.out.now)
-    c.in-Err.stop (λ e. c.in-Err.ensures.others.2 (ap Err e)) (c.in-Err.ensures.run s a) (Appends-nil (g.O.Sink.written c.args.out.now))
+    c.in-Err.stop (λ e. c.in-Err.ensures.sink (ap Err e)) (c.in-Err.ensures.run s a) (Appends-nil (g.O.Sink.written c.args.out.now))
 
 pub returns-in-Ok-write_batch-clause-done : goal.returns-in-Ok-write_batch-clause-done
 returns-in-Ok-write_batch-clause-done g c = λ s a.

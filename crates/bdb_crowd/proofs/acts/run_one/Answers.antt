@@ -13,7 +13,7 @@ returns-in-Err-clause-done g c = λ s a. (still_here s c.args.session.now (g.K.K
 pub returns-in-Err-run-clause-done : goal.returns-in-Err-run-clause-done
 returns-in-Err-run-clause-done g c = λ s a.
     unrun s (One c.args.command) c.args.number c.push.new.self c.run.new.session (g.K.Keeper.seen c.args.keeper.now) (g.K.Keeper.seen c.run.new.keeper) (g.O.Sink.written c.args.out.now)
-    c.in-Err-run.stop (λ e. c.in-Err-run.ensures.others.2 (ap Err e)) (c.in-Err-run.ensures.run s a) (Appends-nil (g.O.Sink.written c.args.out.now))
+    c.in-Err-run.stop (λ e. c.in-Err-run.ensures.sink (ap Err e)) (c.in-Err-run.ensures.run s a) (Appends-nil (g.O.Sink.written c.args.out.now))
 
 pub returns-in-Ok-write_labelled-clause-done : goal.returns-in-Ok-write_labelled-clause-done
 returns-in-Ok-write_labelled-clause-done g c = λ s a.

@@ -20,7 +20,7 @@ returns-in-Err-answer_rest-clause-streams g c = λ p a.
     let r = c.loop-count.invariant.reads in
     (rest_stops g.H.Handler.handling g.met.H.Handler.in_order) p _ _ _ r.0 c.loop-count.cutter c.finish.result c.loop-count.handler c.answer_rest.new.self _ (g.K.Keeper.seen c.loop-count.keeper) _ _ (g.O.Sink.written c.loop-count.out) _ c.loop-count.fine c.in-Err-answer_rest.stop (r.2 p a)
     (consumes_zero _ _ c.in-Ok.count c.read.new.buf (omega (arith, c.if-count-eq0.true)) c.in-Ok.ensures.bytes.0) (search rules) c.finish.ensures
-    (λ e. c.in-Err-answer_rest.ensures.others.0 (ap Err e)) (λ e. c.in-Err-answer_rest.ensures.others.1 (ap Err e)) c.in-Err-answer_rest.ensures.ends
+    (λ e. c.in-Err-answer_rest.ensures.source (ap Err e)) (λ e. c.in-Err-answer_rest.ensures.large (ap Err e)) c.in-Err-answer_rest.ensures.ends
 
 pub returns-then-room-eq0-clause-streams : goal.returns-then-room-eq0-clause-streams
 returns-then-room-eq0-clause-streams g c = λ p a.
@@ -55,7 +55,7 @@ returns-in-Err-answer_block-clause-streams g c = λ p a.
     let r = c.loop-count.invariant.reads in
     (block_stops g.H.Handler.handling g.met.H.Handler.in_order) p _ _ _ r.0 (take c.in-Ok.count c.read.new.buf) c.loop-count.cutter c.loop-count.handler c.answer_block.new.handler _ (g.K.Keeper.seen c.loop-count.keeper) _ _ (g.O.Sink.written c.loop-count.out) _ c.loop-count.fine c.in-Err-answer_block.stop (r.2 p a)
     c.in-Ok.ensures.bytes.0 (search rules)
-    (λ e. c.in-Err-answer_block.ensures.others.0 (ap Err e)) (λ e. c.in-Err-answer_block.ensures.others.1 (ap Err e)) c.in-Err-answer_block.ensures.ends
+    (λ e. c.in-Err-answer_block.ensures.source (ap Err e)) (λ e. c.in-Err-answer_block.ensures.large (ap Err e)) c.in-Err-answer_block.ensures.ends
 
 pub loop-count-init : goal.loop-count-init
 loop-count-init g c = record {
@@ -93,7 +93,7 @@ returns-then-room-eq0-clause-one_more g c = λ _.
     (omega (arith, c.loop-count.invariant.small, c.if-room-eq0.true, c.if-count-eq0.false, c.in-Ok.ensures.bound.0, size, c.size_of_read.ensures.one c.if-room-eq0.true)) given
 
 pub returns-in-Err-answer_block-clause-one_more : goal.returns-in-Err-answer_block-clause-one_more
-returns-in-Err-answer_block-clause-one_more g c = λ e. absurd (c.in-Err-answer_block.ensures.others.1 e)
+returns-in-Err-answer_block-clause-one_more g c = λ e. absurd (c.in-Err-answer_block.ensures.large e)
 
 pub returns-in-Err-answer_block-clause-within : goal.returns-in-Err-answer_block-clause-within
 returns-in-Err-answer_block-clause-within g c = λ _.
