@@ -7,6 +7,48 @@ use bdb_top::job_of;
 use std::alloc::Global;
 use std::test::Fail;
 
+/// Lines whose words name a job that reads its source.
+const NAMING: [&str; 7] = [
+    "run",
+    "run --script a",
+    "run --db a",
+    "run --db a --script b",
+    "run --script b --db a",
+    "many",
+    "many --script b --db a",
+];
+
+/// Lines whose words name no job.
+const NAMELESS: [&str; 27] = [
+    "",
+    "many --help",
+    "run --script",
+    "run --script -a",
+    "run --script=a",
+    "run --script a --script b",
+    "run --db",
+    "run --db -a",
+    "run --db=a",
+    "run --db a --db b",
+    "run --db a --script -b",
+    "run --help",
+    "check",
+    "check a",
+    "check --db",
+    "check --db -a",
+    "check --script a",
+    "check --db a --script b",
+    "Check --db a",
+    "gen --seed x --size 1",
+    "gen --seed 1",
+    "gen --seed 1 --seed 1",
+    "gen --seed 1 --size 10001",
+    "gen --seed 18446744073709551616 --size 1",
+    "gen --seed 000000000000000000001 --size 1",
+    "gen --seed 1 --size 1 --seed 1",
+    "Run",
+];
+
 /// Whether the words of a line name a job, where this is true. Then the source is read, else nothing is done.
 fn are_taken(alloc: Global, line: &str, is_job: bool) -> Result<bool, Fail> {
     let ends = if is_job { 3 } else { 2 };
@@ -22,44 +64,11 @@ fn are_named(alloc: Global, line: &str) -> Result<bool, Fail> {
 #[test]
 fn words_name_jobs(rt: HostRuntime) -> Result<(), Fail> {
     let alloc = rt.alloc();
-    let cases = [
-        ("run", true),
-        ("run --script a", true),
-        ("run --db a", true),
-        ("run --db a --script b", true),
-        ("run --script b --db a", true),
-        ("many", true),
-        ("many --script b --db a", true),
-        ("", false),
-        ("many --help", false),
-        ("run --script", false),
-        ("run --script -a", false),
-        ("run --script=a", false),
-        ("run --script a --script b", false),
-        ("run --db", false),
-        ("run --db -a", false),
-        ("run --db=a", false),
-        ("run --db a --db b", false),
-        ("run --db a --script -b", false),
-        ("run --help", false),
-        ("check", false),
-        ("check a", false),
-        ("check --db", false),
-        ("check --db -a", false),
-        ("check --script a", false),
-        ("check --db a --script b", false),
-        ("Check --db a", false),
-        ("gen --seed x --size 1", false),
-        ("gen --seed 1", false),
-        ("gen --seed 1 --seed 1", false),
-        ("gen --seed 1 --size 10001", false),
-        ("gen --seed 18446744073709551616 --size 1", false),
-        ("gen --seed 000000000000000000001 --size 1", false),
-        ("gen --seed 1 --size 1 --seed 1", false),
-        ("Run", false),
-    ];
-    for (line, is_job) in cases {
-        assert!(rt; are_taken(alloc, line, is_job)?, "{line}");
+    for line in NAMING {
+        assert!(rt; are_taken(alloc, line, true)?, "{line}");
+    }
+    for line in NAMELESS {
+        assert!(rt; are_taken(alloc, line, false)?, "{line}");
     }
     Ok(())
 }
