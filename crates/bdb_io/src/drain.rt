@@ -30,7 +30,14 @@ impl Model for MemSink {
 
     ghost Value = { Drain };
 
-    ghost view = { λ s. record { written = s.bytes.items; room = s.room; part = s.part; fails = s.fails; calls = s.calls; faults = s.faults } };
+    ghost view = { λ s. record {
+      written = s.bytes.items;
+      room = s.room;
+      part = s.part;
+      fails = s.fails;
+      calls = s.calls;
+      faults = s.faults;
+    } };
 
     ghost invariant = { λ s. vec_len s.bytes + s.room ≤ vec_capacity s.bytes };
 }

@@ -29,7 +29,14 @@ impl Model for MemSource {
 
     ghost Value = { Feed };
 
-    ghost view = { λ s. record { left = drop s.from s.bytes.items; given = s.from; step = s.step; fails = s.fails; calls = s.calls; faults = s.faults } };
+    ghost view = { λ s. record {
+      left = drop s.from s.bytes.items;
+      given = s.from;
+      step = s.step;
+      fails = s.fails;
+      calls = s.calls;
+      faults = s.faults;
+    } };
 
     ghost invariant = { λ s. (s.from ≤ vec_len s.bytes) × (1 ≤ s.step) };
 }

@@ -27,7 +27,10 @@ impl Model for Cutter {
 
     ghost Value = { CutterState };
 
-    ghost view = { λ c. record { state = record { mode = c.mode; piece = c.piece; holds = c.holds }; is_spent = c.is_spent } };
+    ghost view = { λ c. record {
+      state = record { mode = c.mode; piece = c.piece; holds = c.holds };
+      is_spent = c.is_spent;
+    } };
 
     ghost invariant = { λ c. is_short c.piece ≡ true };
 }

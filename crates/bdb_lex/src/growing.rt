@@ -28,7 +28,8 @@ impl Model for Growing {
 
     ghost view = { λ g. cond g.is_long Long (Cmd g.bytes.items) };
 
-    ghost invariant = { λ g. (length g.bytes.items ≤ longest_command) × (g.is_long ≡ true → g.bytes.items ≡ []) };
+    ghost invariant = { λ g. (length g.bytes.items ≤ longest_command)
+        × (g.is_long ≡ true → g.bytes.items ≡ []) };
 }
 
 impl Growing {

@@ -61,7 +61,8 @@ impl Stage for UsersChosen<'_> {
 impl Stage for TuplesChosen<'_> {
     ghost use Rattle.bdb_model.specs.Answering.{rows_of_tuples};
 
-    ghost rows = { λ s slots. rows_of_tuples s.catalog.now.rels s.query.now s.sources.now s.worlds.now slots };
+    ghost rows = { λ s slots. rows_of_tuples s.catalog.now.rels s.query.now s.sources.now
+        s.worlds.now slots };
 
     fn add_rows(
         &self,

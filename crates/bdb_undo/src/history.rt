@@ -23,7 +23,10 @@ impl Model for History {
 
     ghost Value = { Kept };
 
-    ghost view = { λ h. record { undos = reverse (take h.done h.changes.items); redos = drop h.done h.changes.items } };
+    ghost view = { λ h. record {
+      undos = reverse (take h.done h.changes.items);
+      redos = drop h.done h.changes.items;
+    } };
 
     ghost invariant = { λ h. IsHistory h.changes h.done };
 }
