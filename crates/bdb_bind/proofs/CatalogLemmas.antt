@@ -14,7 +14,7 @@ use Rattle.bdb_base.specs.Queries.{columns_of_definition}
 use Rattle.bdb_base.proofs.ListLemmas.{list_all_get}
 use Rattle.bdb_base.proofs.OptionLemmas.{some_of}
 use Rattle.bdb_syntax.specs.declared.command.Command.{Command}
-use Rattle.bdb_bind.specs.Lookup.{number_of, columns_of, path_of}
+use Rattle.bdb_bind.specs.Lookup.{relation_number, columns_of, path_of}
 use Rattle.bdb_bind.specs.Parts.{path_names, new_columns, new_key, relation_name, tuple_values, relation_place, columns_for, change_columns}
 use Rattle.bdb_bind.specs.Lines.{unknown_relation, relation_line, values_arity, arity_line}
 use Rattle.bdb_bind.specs.Refusal.{names_refused}
@@ -49,9 +49,9 @@ pub columns_few : (c : Catalog) (name : List ℕ) → IsCatalog c → length (co
 columns_few c name valid = few_of c.rels name valid.rels_valid
 
 -- the relation of a name that is found, and its number
-pub relation_found : (c : Catalog) (name : List ℕ) → is_some (number_of c.rels name) ≡ true
-    → (n : ℕ) × (number_of c.rels name ≡ Some n) × IsFound (λ r. same_text r.name name) 0 c.rels n
-relation_found c name known = let w = some_of (number_of c.rels name) known in (w.0, w.1, found _ 0 c.rels w.0 w.1)
+pub relation_found : (c : Catalog) (name : List ℕ) → is_some (relation_number c.rels name) ≡ true
+    → (n : ℕ) × (relation_number c.rels name ≡ Some n) × IsFound (λ r. same_text r.name name) 0 c.rels n
+relation_found c name known = let w = some_of (relation_number c.rels name) known in (w.0, w.1, found _ 0 c.rels w.0 w.1)
 
 -- the path of a command that isn't refused alternates
 pub accepted_alternates : (catalog : Catalog) (c : Command) (names : List (List ℕ)) → names_refused catalog c ≡ None → names ≡ path_names c
@@ -72,7 +72,7 @@ key_few catalog c (Some n) accepted same =
 
 -- the relation that a command names is there
 pub named_relation : (catalog : Catalog) (c : Command) (rel : List ℕ) → relation_name c ≡ Some rel → relation_line catalog c ≡ None
-    → is_some (number_of catalog.rels rel) ≡ true
+    → is_some (relation_number catalog.rels rel) ≡ true
 unfolding relation_line
 named_relation catalog c rel named e =
     let known : unknown_relation catalog.rels (Some rel) ≡ None = ap (unknown_relation catalog.rels) (sym named) ∙ (neither _ _ e).0 in
@@ -99,7 +99,7 @@ values_filled catalog c rel vals valid named valued accepted =
     let counted = values_counted catalog c rel vals named valued clear.arity in
     omega (arith, ap length same)
 
-placed : (c : Catalog) (name : Option (List ℕ)) (at : ℕ) → IsCatalog c → option_and_then (number_of c.rels) name ≡ Some at → at < most_relations
+placed : (c : Catalog) (name : Option (List ℕ)) (at : ℕ) → IsCatalog c → option_and_then (relation_number c.rels) name ≡ Some at → at < most_relations
 placed c None at valid same = cc
 placed c (Some name) at valid same =
     let f = found (λ r. same_text r.name name) 0 c.rels at same in

@@ -19,7 +19,7 @@ use Rattle.bdb_syntax.specs.declared.command.Command.TheVariants.{CreateUser, Dr
 use Rattle.bdb_syntax.specs.declared.command.RawCond.{RawCond}
 use Rattle.bdb_syntax.specs.declared.command.RawQuery.{RawQuery}
 use Rattle.bdb_syntax.specs.declared.command.RawSet.{RawSet}
-use Rattle.bdb_bind.specs.Lookup.{is_called, is_user_name, uid_at, number_of, columns_of, has_column}
+use Rattle.bdb_bind.specs.Lookup.{is_called, is_user_name, uid_at, relation_number, columns_of, has_column}
 use Rattle.bdb_bind.specs.Parts.{query_of, relation_name, tuple_values, columns_for, change_columns, value_texts, side_texts, cond_columns, is_long, some_who_text, some_query_text, some_signed_text, some_text}
 use Rattle.bdb_bind.specs.Lines.{first_repeated, missing_column, items_line, relation_line, user_line, alias_line, column_line, key_line, repeat_line, taken_line, misfit, values_kind, fits_set, fits_cond, set_kinds, cond_kinds, change_kind, kind_line}
 use Rattle.bdb_bind.specs.Binding.{relation_at, key_length, bound_cond, bound_set, bound_of}
@@ -41,7 +41,7 @@ record IsRelation (catalog : Catalog) (name : List ℕ) : Type 0 where
   columns : columns_of catalog.rels name ≡ def.cols
   within : relation_at catalog.rels name < length catalog.rels
 
-relation_numbered : (catalog : Catalog) (name : List ℕ) → is_some (number_of catalog.rels name) ≡ true → IsRelation catalog name
+relation_numbered : (catalog : Catalog) (name : List ℕ) → is_some (relation_number catalog.rels name) ≡ true → IsRelation catalog name
 relation_numbered catalog name known =
     let w = relation_found catalog name known in
     let f = w.2 in
@@ -111,11 +111,11 @@ unfolding taken_line
 user_free catalog name e = not_refused _ _ e
 
 relation_free : (catalog : Catalog) (name : List ℕ) (cols : List ColDef) (key : Option ℤ) → taken_line catalog (CreateRelation name cols key) ≡ None
-    → (is_some (number_of catalog.rels name) ≡ false) × (same_text name users_name ≡ false) × (first_repeated [] cols ≡ None)
+    → (is_some (relation_number catalog.rels name) ≡ false) × (same_text name users_name ≡ false) × (first_repeated [] cols ≡ None)
 unfolding taken_line
 relation_free catalog name cols key e =
     let parts = neither _ _ e in
-    let free = or_parts (is_some (number_of catalog.rels name)) (same_text name users_name) (not_refused _ _ parts.0) in
+    let free = or_parts (is_some (relation_number catalog.rels name)) (same_text name users_name) (not_refused _ _ parts.0) in
     (free.0, free.1, nothing_mapped _ _ parts.1)
 
 above_none : (n : ℤ) → int_lt (pos 0) n ≡ true → nat_lt 0 (unsigned_abs n) ≡ true

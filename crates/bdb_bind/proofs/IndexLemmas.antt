@@ -10,7 +10,7 @@ use Rattle.bdb_base.specs.declared.kinds.UserSlot.TheVariants.{Live, Gone}
 use Rattle.bdb_base.specs.Same.{same_text}
 use Rattle.bdb_base.proofs.SegmentLemmas.{same_text_is}
 use Rattle.bdb_bind.specs.Indexes.{or_place, or_slot, user_place}
-use Rattle.bdb_bind.specs.Lookup.{is_called, number_of}
+use Rattle.bdb_bind.specs.Lookup.{is_called, relation_number}
 
 pushed : {X : Type 0} (p : X → Bool) (start : ℕ) (xs : List X) (x : X) (n : ℕ) → n ≡ start + length xs
     → position_from p start (xs ++ x ∷ []) ≡ option_or (position_from p start xs) (cond (p x) (Some n) None)
@@ -43,7 +43,7 @@ pub users_more : (users : List UserSlot) (at : ℕ) (slot : UserSlot) (q : List 
 users_more users at slot q below item = place_more (is_called q) users at slot below item ∙ told_more (user_place (take at users) q) slot at q
 
 pub relations_more : (rels : List RelDef) (at : ℕ) (x : RelDef) (q : List ℕ) → at < length rels → x ≡ get_or rels at x
-    → number_of (take (at + 1) rels) q ≡ or_place (number_of (take at rels) q) x.name at q
+    → relation_number (take (at + 1) rels) q ≡ or_place (relation_number (take at rels) q) x.name at q
 relations_more rels at x q below item = place_more (λ (r : RelDef). same_text r.name q) rels at x below item
 
 -- a name that wasn't known is told its place, and no other changes

@@ -10,7 +10,7 @@ use Rattle.bdb_base.specs.Bases.{are_distinct, user_names}
 use Rattle.bdb_base.specs.Same.{same_text}
 use Rattle.bdb_base.specs.Queries.{columns_of_definition}
 use Rattle.bdb_base.proofs.SegmentLemmas.{same_text_is}
-use Rattle.bdb_bind.specs.Lookup.{is_called, is_called_at, uid_of, is_name, number_of, columns_of}
+use Rattle.bdb_bind.specs.Lookup.{is_called, is_called_at, uid_of, is_name, relation_number, columns_of}
 use Rattle.bdb_bind.proofs.Founds.{found}
 
 -- a name of a list is among the names
@@ -72,7 +72,7 @@ pub user_at : (users : List UserSlot) (at : ℕ) (name : List ℕ) → are_disti
 user_at users at name differ here = let place : 1 + at ≡ at + 1 = omega arith in lives_there 1 users at name differ here ∙ ap Some place
 
 pub relation_at_place : (rels : List RelDef) (at : ℕ) (name : List ℕ) → are_distinct (map (λ r. r.name) rels) ≡ true
-    → is_name name (option_map (λ r. r.name) (slice_get rels at)) ≡ true → number_of rels name ≡ Some at
+    → is_name name (option_map (λ r. r.name) (slice_get rels at)) ≡ true → relation_number rels name ≡ Some at
 relation_at_place rels at name differ here = stands_at (λ (r : RelDef). r.name) 0 rels at name differ here ∙ ap Some (zero-add at)
 
 pub columns_at_place : (rels : List RelDef) (at : ℕ) (name : List ℕ) (def : RelDef) → are_distinct (map (λ r. r.name) rels) ≡ true

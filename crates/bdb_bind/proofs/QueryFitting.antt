@@ -29,7 +29,7 @@ use Rattle.bdb_bind.specs.declared.bound.BindError.{BindError}
 use Rattle.bdb_bind.specs.Firsts.{first_in}
 use Rattle.bdb_bind.specs.Fits.{is_unclean}
 use Rattle.bdb_bind.specs.Kinds.{kind_of}
-use Rattle.bdb_bind.specs.Lookup.{is_user_name, uid_at, number_of, columns_of, column_at}
+use Rattle.bdb_bind.specs.Lookup.{is_user_name, uid_at, relation_number, columns_of, column_at}
 use Rattle.bdb_bind.specs.Parts.{value_texts, side_texts, is_long}
 use Rattle.bdb_bind.specs.QueryBinding.{place_named, query_column_at, query_side, query_cond, query_who, query_item, bound_query}
 use Rattle.bdb_bind.specs.QueryLines.{item_relation, who_user, item_user, in_who, in_path, in_side, in_cond, in_later_columns, in_columns, column_alias, column_missing, column_not_uid, begins_with_name, repeats_name, kind_named, kind_of_side, cond_kind}
@@ -86,25 +86,25 @@ bound_item catalog items alias w =
 -- ---- the columns of an item
 
 -- the columns of a relation by its name and by its number
-numbered_columns : (catalog : Catalog) (name : List ℕ) → is_some (number_of catalog.rels name) ≡ true
-    → columns_at catalog.rels (unwrap_or (number_of catalog.rels name) 0) ≡ columns_of catalog.rels name
+numbered_columns : (catalog : Catalog) (name : List ℕ) → is_some (relation_number catalog.rels name) ≡ true
+    → columns_at catalog.rels (unwrap_or (relation_number catalog.rels name) 0) ≡ columns_of catalog.rels name
 numbered_columns catalog name known =
     let w = relation_found catalog name known in
     let f = w.2 in
-    let place : unwrap_or (number_of catalog.rels name) 0 ≡ f.at = ap (λ o. unwrap_or o 0) w.1 ∙ f.place ∙ zero-add f.at in
+    let place : unwrap_or (relation_number catalog.rels name) 0 ≡ f.at = ap (λ o. unwrap_or o 0) w.1 ∙ f.place ∙ zero-add f.at in
     ap columns_of_definition (ap (slice_get catalog.rels) place ∙ f.there) ∙ sym (ap columns_of_definition f.first)
 
-relation_there : (catalog : Catalog) (name : List ℕ) → is_some (number_of catalog.rels name) ≡ true
-    → is_some (slice_get catalog.rels (unwrap_or (number_of catalog.rels name) 0)) ≡ true
+relation_there : (catalog : Catalog) (name : List ℕ) → is_some (relation_number catalog.rels name) ≡ true
+    → is_some (slice_get catalog.rels (unwrap_or (relation_number catalog.rels name) 0)) ≡ true
 relation_there catalog name known =
     let w = relation_found catalog name known in
     let f = w.2 in
-    let place : unwrap_or (number_of catalog.rels name) 0 ≡ f.at = ap (λ o. unwrap_or o 0) w.1 ∙ f.place ∙ zero-add f.at in
+    let place : unwrap_or (relation_number catalog.rels name) 0 ≡ f.at = ap (λ o. unwrap_or o 0) w.1 ∙ f.place ∙ zero-add f.at in
     ap is_some (ap (slice_get catalog.rels) place ∙ f.there)
 
 -- the relation of an item that doesn't stand for the users is there
-relation_known : (rels : List RelDef) (i : RawItem) → item_relation rels i ≡ None → is_users i ≡ false → is_some (number_of rels i.rel) ≡ true
-relation_known rels i none other = elim (or_cases (is_users i) (is_some (number_of rels i.rel)) (not-false _ (not_refused _ _ none))) [
+relation_known : (rels : List RelDef) (i : RawItem) → item_relation rels i ≡ None → is_users i ≡ false → is_some (relation_number rels i.rel) ≡ true
+relation_known rels i none other = elim (or_cases (is_users i) (is_some (relation_number rels i.rel)) (not-false _ (not_refused _ _ none))) [
   | inl users ↦ cc
   | inr known ↦ known
 ]
@@ -114,7 +114,7 @@ bound_users : (catalog : Catalog) (items : List RawItem) (i : RawItem) → is_us
 bound_users catalog items i users = cond-true (is_users i) (item.Users i.alias) _ users
 
 bound_relation : (catalog : Catalog) (items : List RawItem) (i : RawItem) → is_users i ≡ false
-    → query_item catalog items i ≡ item.Rel i.alias (unwrap_or (number_of catalog.rels i.rel) 0) i.sign (map (query_who catalog.users items) i.path)
+    → query_item catalog items i ≡ item.Rel i.alias (unwrap_or (relation_number catalog.rels i.rel) 0) i.sign (map (query_who catalog.users items) i.path)
 bound_relation catalog items i other = cond-false (is_users i) (item.Users i.alias) _ other
 
 -- the kinds of a bound item's columns

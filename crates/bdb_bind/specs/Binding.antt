@@ -20,12 +20,12 @@ use Rattle.bdb_syntax.specs.declared.command.RawSide.TheVariants.{Col, Lit}
 use Rattle.bdb_syntax.specs.declared.command.RawSet.{RawSet}
 use Rattle.bdb_bind.specs.declared.bound.Bound.{Bound}
 use Rattle.bdb_bind.specs.declared.bound.Bound.TheVariants as bound
-use Rattle.bdb_bind.specs.Lookup.{uid_at, path_of, number_of, columns_of, column_at}
+use Rattle.bdb_bind.specs.Lookup.{uid_at, path_of, relation_number, columns_of, column_at}
 use Rattle.bdb_bind.specs.QueryBinding.{bound_query}
 
 -- the number of a relation that is there
 abbrev pub relation_at : List RelDef → List ℕ → ℕ
-relation_at rels name = unwrap_or (number_of rels name) 0
+relation_at rels name = unwrap_or (relation_number rels name) 0
 
 -- the place of a column that is there
 abbrev pub place_of : List ColDef → List ℕ → ℕ

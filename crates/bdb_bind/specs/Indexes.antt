@@ -10,7 +10,7 @@ use Rattle.bdb_base.specs.Bases.{are_distinct, user_names, without_user}
 use Rattle.bdb_base.specs.Queries.{user_name}
 use Rattle.bdb_base.specs.Same.{same_text}
 use Rattle.bdb_bind.specs.declared.index.NameIndex.{NameIndex}
-use Rattle.bdb_bind.specs.Lookup.{is_called, number_of}
+use Rattle.bdb_bind.specs.Lookup.{is_called, relation_number}
 
 -- what is told of a name, where nothing was told before: its place
 abbrev pub or_place : Option ℕ → List ℕ → ℕ → List ℕ → Option ℕ
@@ -37,4 +37,4 @@ WhoLeavesIsForgotten = (c : Catalog) (uid : ℕ) (name q : List ℕ) → are_dis
 -- an index tells of each name where its first live user and its first relation stand
 pub record TellsOf (c : Catalog) (n : NameIndex) : Type 0 where
   pub users : (name : List ℕ) → get_by_text n.users name ≡ user_place c.users name
-  pub rels : (name : List ℕ) → get_by_text n.rels name ≡ number_of c.rels name
+  pub rels : (name : List ℕ) → get_by_text n.rels name ≡ relation_number c.rels name

@@ -22,7 +22,7 @@ use Rattle.bdb_bind.specs.declared.bound.BindError.{BindError}
 use Rattle.bdb_bind.specs.declared.bound.BindError.TheVariants as error
 use Rattle.bdb_bind.specs.Firsts.{refused_if, or_next}
 use Rattle.bdb_bind.specs.Kinds.{kind_of}
-use Rattle.bdb_bind.specs.Lookup.{is_user_name, number_of, has_column, kind_at}
+use Rattle.bdb_bind.specs.Lookup.{is_user_name, relation_number, has_column, kind_at}
 use Rattle.bdb_bind.specs.Parts.{query_of, change_columns, path_names, depth_limit, relation_name, tuple_values, new_columns, new_key, cond_columns, is_long, some_text}
 use Rattle.bdb_bind.specs.QueryLines.{query_items, query_relation, query_user, query_alias_twice, query_alias, query_column, query_repeat, query_deep, query_kind}
 
@@ -41,7 +41,7 @@ items_line c = or_next (too_many_columns c) (option_and_then query_items (query_
 -- a name that should be a relation's is none
 abbrev pub unknown_relation : List RelDef → Option (List ℕ) → Option BindError
 unknown_relation rels None = None
-unknown_relation rels (Some name) = refused_if (not (is_some (number_of rels name))) (error.Relation name)
+unknown_relation rels (Some name) = refused_if (not (is_some (relation_number rels name))) (error.Relation name)
 
 -- a relation isn't in the catalog
 unfoldable pub relation_line : Catalog → Command → Option BindError
@@ -86,7 +86,7 @@ first_repeated seen (c ∷ cs) = if list_any (λ d. same_text c.name d.name) see
 unfoldable pub taken_line : Catalog → Command → Option BindError
 taken_line catalog (CreateUser name) = refused_if (is_user_name catalog.users name) (error.TakenUser name)
 taken_line catalog (CreateRelation name cols key) = or_next
-    (refused_if (is_some (number_of catalog.rels name) || same_text name users_name) (error.TakenName name))
+    (refused_if (is_some (relation_number catalog.rels name) || same_text name users_name) (error.TakenName name))
     (option_map error.TakenName (first_repeated [] cols))
 taken_line catalog _ = None
 

@@ -42,8 +42,8 @@ is_name name None = false
 is_name name (Some x) = same_text x name
 
 -- the number of a relation: its place, from 0
-abbrev pub number_of : List RelDef → List ℕ → Option ℕ
-number_of rels name = position_from (λ r. same_text r.name name) 0 rels
+abbrev pub relation_number : List RelDef → List ℕ → Option ℕ
+relation_number rels name = position_from (λ r. same_text r.name name) 0 rels
 
 -- the columns of the relation of a name
 abbrev pub columns_of : List RelDef → List ℕ → List ColDef

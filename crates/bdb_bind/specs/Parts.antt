@@ -15,7 +15,7 @@ use Rattle.bdb_syntax.specs.declared.command.RawSide.TheVariants.{Col, Lit}
 use Rattle.bdb_syntax.specs.declared.command.RawQuery.{RawQuery}
 use Rattle.bdb_syntax.specs.declared.command.RawWho.{RawWho}
 use Rattle.bdb_syntax.specs.declared.command.RawWho.TheVariants as who
-use Rattle.bdb_bind.specs.Lookup.{number_of, columns_of}
+use Rattle.bdb_bind.specs.Lookup.{relation_number, columns_of}
 
 -- the query of a command
 abbrev pub query_of : Command → Option RawQuery
@@ -55,7 +55,7 @@ tuple_values _ = None
 
 -- the place of the relation that a command names
 abbrev pub relation_place : List RelDef → Command → Option ℕ
-relation_place rels c = option_and_then (number_of rels) (relation_name c)
+relation_place rels c = option_and_then (relation_number rels) (relation_name c)
 
 -- the columns of a relation that may not be named
 abbrev pub columns_for : List RelDef → Option (List ℕ) → List ColDef

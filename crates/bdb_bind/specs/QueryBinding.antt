@@ -21,7 +21,7 @@ use Rattle.bdb_syntax.specs.declared.command.RawSide.{RawSide}
 use Rattle.bdb_syntax.specs.declared.command.RawSide.TheVariants.{Col, Lit}
 use Rattle.bdb_syntax.specs.declared.command.RawWho.{RawWho}
 use Rattle.bdb_syntax.specs.declared.command.RawWho.TheVariants as who
-use Rattle.bdb_bind.specs.Lookup.{uid_at, number_of, column_at}
+use Rattle.bdb_bind.specs.Lookup.{uid_at, relation_number, column_at}
 use Rattle.bdb_bind.specs.Scope.{is_users, item_place, columns_named}
 
 -- the place of an item that is there
@@ -46,7 +46,7 @@ query_who users items (who.Col c) = user.Of (place_named items c.alias)
 
 abbrev pub query_item : Catalog → List RawItem → RawItem → Item
 query_item catalog items i = if is_users i then item.Users i.alias
-    else item.Rel i.alias (unwrap_or (number_of catalog.rels i.rel) 0) i.sign (map (query_who catalog.users items) i.path)
+    else item.Rel i.alias (unwrap_or (relation_number catalog.rels i.rel) 0) i.sign (map (query_who catalog.users items) i.path)
 
 -- a query, with its users, relations and columns by number
 unfoldable pub bound_query : Catalog → RawQuery → Query

@@ -20,7 +20,7 @@ use Rattle.bdb_bind.specs.declared.bound.BindError.{BindError}
 use Rattle.bdb_bind.specs.declared.bound.BindError.TheVariants as error
 use Rattle.bdb_bind.specs.Firsts.{refused_if, or_next, first_in}
 use Rattle.bdb_bind.specs.Kinds.{kind_of}
-use Rattle.bdb_bind.specs.Lookup.{is_user_name, number_of, has_column, kind_at}
+use Rattle.bdb_bind.specs.Lookup.{is_user_name, relation_number, has_column, kind_at}
 use Rattle.bdb_bind.specs.Scope.{is_users, item_place, columns_named, is_uid}
 
 -- too many items, or too many select columns
@@ -29,7 +29,7 @@ query_items q = refused_if (nat_lt most_items (length q.items) || nat_lt most_se
 
 -- an item's relation isn't in the catalog
 abbrev pub item_relation : List RelDef → RawItem → Option BindError
-item_relation rels i = refused_if (not (is_users i || is_some (number_of rels i.rel))) (error.Relation i.rel)
+item_relation rels i = refused_if (not (is_users i || is_some (relation_number rels i.rel))) (error.Relation i.rel)
 
 -- the first item whose relation isn't in the catalog
 abbrev pub query_relation : List RelDef → RawQuery → Option BindError

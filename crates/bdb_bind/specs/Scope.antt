@@ -23,8 +23,8 @@ item_place items None = None
 item_place items (Some alias) = position_from (λ i. same_text i.alias alias) 0 items
 
 -- a map tells of each alias the place of the first item that has it
-abbrev pub TellsPlaces : {S : Type 0} → IndexMap (Bor (List ℕ)) ℕ S → List RawItem → Type 0
-TellsPlaces places items = (alias : List ℕ) → get_by (λ k. same_text alias k.now) places ≡ item_place items (Some alias)
+abbrev pub TellsItems : {S : Type 0} → IndexMap (Bor (List ℕ)) ℕ S → List RawItem → Type 0
+TellsItems places items = (alias : List ℕ) → get_by (λ k. same_text alias k.now) places ≡ item_place items (Some alias)
 
 -- the first item of an alias
 abbrev pub item_of : List RawItem → Option (List ℕ) → Option RawItem

@@ -5,7 +5,7 @@ ghost use Rattle.std.specs.Option.{option_map};
 ghost use Rattle.bdb_base.specs.Limits.{most_users};
 ghost use Rattle.bdb_base.specs.Bases.{IsCatalog, are_distinct, user_names};
 ghost use Rattle.bdb_bind.specs.Firsts.{Checks};
-ghost use Rattle.bdb_bind.specs.Lookup.{is_called_at, uid_of, path_of, is_name, number_of, columns_of};
+ghost use Rattle.bdb_bind.specs.Lookup.{is_called_at, uid_of, path_of, is_name, relation_number, columns_of};
 ghost use Rattle.bdb_bind.specs.Lines.{unknown_user};
 ghost use Rattle.bdb_bind.specs.Parts.{relation_place, change_columns};
 
@@ -48,7 +48,7 @@ pub fn find_relation<'a>(
 #[tactic(auto, using(crate::proofs::PlaceLemmas::relation_at_place, crate::proofs::PlaceLemmas::columns_at_place))]
 fn find_by_name<'a>(rels: &'a [RelDef], index: &NameIndex, name: &Txt) -> FoundRelation<'a>
     requires differ { are_distinct (map (λ r. r.name) rels.now) ≡ true }
-    ensures place { result.place ≡ number_of rels.now name.now }
+    ensures place { result.place ≡ relation_number rels.now name.now }
     ensures cols { result.cols.now ≡ columns_of rels.now name.now }
 {
     if let Some(at) = index.relation(name) {
@@ -75,7 +75,7 @@ fn is_relation_at(rels: &[RelDef], at: usize, name: &Txt) -> bool
 
 /// The relation of a name, by a search.
 fn search<'a>(rels: &'a [RelDef], name: &Txt) -> FoundRelation<'a>
-    ensures place { result.place ≡ number_of rels.now name.now }
+    ensures place { result.place ≡ relation_number rels.now name.now }
     ensures cols { result.cols.now ≡ columns_of rels.now name.now }
 {
     for (at, rel) in rels.iter().enumerate() {

@@ -2,7 +2,7 @@
 ghost use Rattle.std.specs.Prelude.{◌≡◌, ℕ, List, None, IfOk, OnOk, OnErr};
 ghost use Rattle.std.specs.BTreeMap.{get_by_text};
 ghost use Rattle.bdb_bind.specs.Indexes.{or_place, or_slot, but_of, user_place, TellsOf};
-ghost use Rattle.bdb_bind.specs.Lookup.{number_of};
+ghost use Rattle.bdb_bind.specs.Lookup.{relation_number};
 
 use bdb_base::{Catalog, RelDef, Txt, UserSlot};
 use std::alloc::{AllocError, Global};
@@ -139,7 +139,7 @@ fn places_of_relations(
     alloc: Global,
     rels: &[RelDef],
 ) -> Result<BTreeMap<String, usize>, AllocError>
-    ensures { IfOk result (λ m. (q : List ℕ) → get_by_text m q ≡ number_of rels.now q) }
+    ensures { IfOk result (λ m. (q : List ℕ) → get_by_text m q ≡ relation_number rels.now q) }
 {
     let mut places = BTreeMap::new(alloc);
     for (at, rel) in rels.iter().enumerate() {

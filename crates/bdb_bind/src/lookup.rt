@@ -1,7 +1,7 @@
 // Looking names up in a catalog.
 ghost use Rattle.std.specs.Prelude.{◌≡◌, ◌<◌, ◌≤◌, length, IfSome};
 ghost use Rattle.bdb_base.specs.Same.{same_text};
-ghost use Rattle.bdb_bind.specs.Lookup.{is_called, uid_of, number_of, columns_of, column_at, kind_at};
+ghost use Rattle.bdb_bind.specs.Lookup.{is_called, uid_of, relation_number, columns_of, column_at, kind_at};
 
 use bdb_base::{ColDef, Kind, RelDef, Txt, UserSlot};
 
@@ -37,7 +37,7 @@ pub fn uid_of(users: &[UserSlot], name: &Txt) -> Option<usize>
 
 /// The number of a relation: relations are numbered from 0.
 pub fn number_of(rels: &[RelDef], name: &Txt) -> Option<usize>
-    ensures number { result ≡ number_of rels.now name.now }
+    ensures number { result ≡ relation_number rels.now name.now }
     ensures within { IfSome result (λ number. number < length rels.now) }
 {
     for (at, rel) in rels.iter().enumerate() {

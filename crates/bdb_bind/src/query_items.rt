@@ -23,13 +23,13 @@ pub struct QueryItems<'a> {
 impl<'a> Model for QueryItems<'a> {
     ghost use Rattle.std.specs.Prelude.{List};
     ghost use Rattle.bdb_syntax.specs.declared.command.RawItem.{RawItem};
-    ghost use Rattle.bdb_bind.specs.Scope.{TellsPlaces};
+    ghost use Rattle.bdb_bind.specs.Scope.{TellsItems};
 
     ghost Value = { List RawItem };
 
     ghost view = { λ q. q.items.now };
 
-    ghost invariant = { λ q. TellsPlaces q.places q.items.now };
+    ghost invariant = { λ q. TellsItems q.places q.items.now };
 }
 
 impl<'a> QueryItems<'a> {

@@ -18,7 +18,7 @@ use Rattle.bdb_base.proofs.SetLemmas.{loop_makes_set, set_is_ascending}
 use Rattle.bdb_paths.proofs.StateLemmas.{list_has_states, states_are_counted}
 use Rattle.bdb_paths.proofs.PlaceLemmas.{target_stands}
 use Rattle.bdb_paths.proofs.SuffixLemmas.{deepest_same}
-use Rattle.bdb_canon.specs.Canonical.{AreStates, AreTuples}
+use Rattle.bdb_canon.specs.Canonical.{AreStates, AreTuplesInOrder}
 use Rattle.bdb_canon.specs.CanonLaws.{LinksLeadToStates, EdgesLeadToStates}
 
 -- ---- states
@@ -58,7 +58,7 @@ states_are c stmts states v e =
       few = omega arith;
     }
 
-pub tuples_are : (c : Catalog) (stmts : List Stmt) (tuples : List Tuple) → IsValid c stmts → tuples ≡ tuples_of stmts → AreTuples tuples
+pub tuples_are : (c : Catalog) (stmts : List Stmt) (tuples : List Tuple) → IsValid c stmts → tuples ≡ tuples_of stmts → AreTuplesInOrder tuples
 tuples_are c stmts tuples v e =
     let n = few_tuples c stmts v in
     let l = ap length e in

@@ -81,6 +81,6 @@ pub record AreStates (states : List (List ℕ)) : Type 0 where
   pub few : length states < 2 ^ 32
 
 -- a list of tuples: in order, and so few that a place is a u32
-pub record AreTuples (tuples : List Tuple) : Type 0 where
+pub record AreTuplesInOrder (tuples : List Tuple) : Type 0 where
   pub sorted : ascending tuple_cmp tuples ≡ true
   pub few : length tuples < 2 ^ 32

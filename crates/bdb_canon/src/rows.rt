@@ -5,7 +5,7 @@ ghost use Rattle.bdb_base.specs.Bases.{key_lengths};
 ghost use Rattle.bdb_base.specs.Order.{path_cmp, statement_cmp};
 ghost use Rattle.bdb_base.specs.SortedSet.{ascending};
 ghost use Rattle.bdb_paths.specs.Places.{place_in};
-ghost use Rattle.bdb_canon.specs.Canonical.{AreStates, AreTuples, rows_from};
+ghost use Rattle.bdb_canon.specs.Canonical.{AreStates, AreTuplesInOrder, rows_from};
 
 use crate::places::place_in;
 use crate::structure::CanonRow;
@@ -23,7 +23,7 @@ pub fn rows_of(
 ) -> Result<List<CanonRow>, AllocError>
     requires stmts { ascending statement_cmp stmts.now ≡ true }
     requires states { AreStates states.now }
-    requires tuples { AreTuples tuples.now }
+    requires tuples { AreTuplesInOrder tuples.now }
     ensures { IfOk result
         (λ rows. rows ≡ flat_map (rows_from (key_lengths rels.now) stmts.now states.now tuples.now)
         states.now) }
@@ -57,7 +57,7 @@ fn push_rows(
 ) -> Result<(), AllocError>
     requires stmts { ascending statement_cmp stmts.now ≡ true }
     requires states { AreStates states.now }
-    requires tuples { AreTuples tuples.now }
+    requires tuples { AreTuplesInOrder tuples.now }
     requires place { world ≡ place_in path_cmp states.now path.now }
     ensures { OnOk result
         (rows.new ≡ rows.old ++ rows_from (key_lengths rels.now)

@@ -25,7 +25,7 @@ use Rattle.bdb_update.proofs.CountLemmas.{numbers_are_counted}
 use Rattle.bdb_update.proofs.GrammarLemmas.{stored_is_in_grammar}
 use Rattle.bdb_update.proofs.StayLemmas.{same_by_user}
 use Rattle.bdb_update.proofs.StoreLemmas.{edges_alone, edges_store_without_user, states_as}
-use Rattle.bdb_catalog.specs.Place.{LosesUser, MayLoseUser, SomeMayLoseUser, WritesPlace}
+use Rattle.bdb_catalog.specs.Place.{LosesUser, MayLoseUser, SomeMayLoseUser, WritesEmptied}
 
 pub place_grammar : (t : Tables) (uid : ℕ) → SomeMayLoseUser t uid → InGrammar t
 place_grammar t uid h = stored_is_in_grammar t h.base h.may.stored
@@ -72,7 +72,7 @@ module _ (t m : Tables) (uid : ℕ) (put : m ≡ tables.insert t (place user_cod
 -- ---- how often is written
 
 pub place_written : (old mid new : Seen) (uid : ℕ) → mid.kept ≡ tables.insert old.kept (place user_codec uid) (user_codec.row_bytes Gone) → mid.writes ≤ new.writes
-    → RoseBy 1 old.writes mid.writes → WritesDropped mid new uid → WritesPlace old new uid
+    → RoseBy 1 old.writes mid.writes → WritesDropped mid new uid → WritesEmptied old new uid
 place_written old mid new uid put le one edges b h =
     rises_twice_and_once (length h.stored.names.used) (world_count b.stmts) old.writes mid.writes new.writes le
     (numbers_are_counted h.stored.names h.stored.stored.states.names b.stmts h.stored.stored.worlds) one

@@ -24,5 +24,5 @@ abbrev pub LosesUser : Tables → Tables → ℕ → Type 0
 LosesUser t u uid = (b : Contents) → MayLoseUser t uid b → Stores u (record b { catalog = without_user b.catalog uid })
 
 -- whichever base the tables stored, two writes were made for each of its worlds, and one
-abbrev pub WritesPlace : Seen → Seen → ℕ → Type 0
-WritesPlace old new uid = (b : Contents) → MayLoseUser old.kept uid b → Rises (2 * world_count b.stmts + 1) old.writes new.writes
+abbrev pub WritesEmptied : Seen → Seen → ℕ → Type 0
+WritesEmptied old new uid = (b : Contents) → MayLoseUser old.kept uid b → Rises (2 * world_count b.stmts + 1) old.writes new.writes

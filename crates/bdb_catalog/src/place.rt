@@ -1,6 +1,6 @@
 // The place of a user who leaves.
 ghost use Rattle.std.specs.Prelude.{◌≡◌, true, OnOk};
-ghost use Rattle.bdb_catalog.specs.Place.{LosesUser, SomeMayLoseUser, WritesPlace};
+ghost use Rattle.bdb_catalog.specs.Place.{LosesUser, SomeMayLoseUser, WritesEmptied};
 ghost use Rattle.bdb_update.specs.Keeping.{SameNumbers};
 ghost use Rattle.bdb_val.specs.Steps.{IsChanging};
 
@@ -16,7 +16,7 @@ pub fn empty_place<K: Keeper>(alloc: Global, keeper: &mut K, uid: u32) -> Result
     requires running { (K.seen keeper.old).running ≡ true }
     requires base { SomeMayLoseUser (K.seen keeper.old).kept uid }
     ensures lost { OnOk result (LosesUser (K.seen keeper.old).kept (K.seen keeper.new).kept uid) }
-    ensures writes { OnOk result (WritesPlace (K.seen keeper.old) (K.seen keeper.new) uid) }
+    ensures writes { OnOk result (WritesEmptied (K.seen keeper.old) (K.seen keeper.new) uid) }
     ensures keeps { OnOk result (SameNumbers (K.seen keeper.old).kept (K.seen keeper.new).kept) }
     ensures changing { IsChanging (K.seen keeper.old) (K.seen keeper.new) result TabError.Fault }
 {

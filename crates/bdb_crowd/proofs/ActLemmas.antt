@@ -29,8 +29,8 @@ use Rattle.bdb_session.specs.declared.event.Event as asked
 use Rattle.bdb_stream.specs.declared.error.RunError.{RunError}
 use Rattle.bdb_stream.specs.declared.error.RunError.TheVariants.{Source, Sink, Keeper, Memory, Large}
 use Rattle.bdb_crowd.specs.Asked.{Asked, Point, commits_by, is_fine, next_point, piece, reply_of, unfinished}
-use Rattle.bdb_crowd.specs.Carried.{AtHand, Carried, IsAnswer, IsAt, IsAtSome}
-use Rattle.bdb_crowd.specs.Due.{Due, IsDone, IsRunBy, IsTold, IsWaiting, Lands, due_to, end_line, session_batches}
+use Rattle.bdb_crowd.specs.Carried.{AtHand, Carried, IsAt, IsAtSome, TellsAnswer}
+use Rattle.bdb_crowd.specs.Due.{Due, IsDone, IsRunBy, IsTextTold, IsWaiting, Lands, due_to, end_line, session_batches}
 use Rattle.bdb_stream.proofs.HandledLemmas.{grows_as}
 
 -- ---- nothing is run
@@ -47,7 +47,7 @@ still_here s k now a = record { agrees = a; rises = λ _. omega arith }
 
 -- a line alone was told
 told_done : (s : State) (text : List ℕ) (fine : Bool) (k : Known) (now : Seen) (old new : Option (List ℕ)) (result : Result Bool RunError)
-    → Agrees now.kept k s → IsTold text fine old new result → IsDone s (record { reply = text; fine = fine; next = s; commits = 0 }) k now now old new result
+    → Agrees now.kept k s → IsTextTold text fine old new result → IsDone s (record { reply = text; fine = fine; next = s; commits = 0 }) k now now old new result
 told_done s text fine k now old new (Ok is) a h = (still_here s k now a, h.0, h.1)
 told_done s text fine k now old new (Err Sink) a h = (still_here s k now a, h)
 told_done s text fine k now old new (Err Source) a h = absurd h
@@ -57,22 +57,22 @@ told_done s text fine k now old new (Err Large) a h = absurd h
 
 module _ (s : State) (n : ℕ) (act : Act) (k : Known) (now : Seen) (old new : Option (List ℕ)) (result : Result Bool RunError) (a : Agrees now.kept k s) where
   -- an act that tells a line alone is done where the line was told
-  pub begun_done : act ≡ Begun → IsTold (told n (codes "begun")) true old new result → IsDone s (due_to s n act) k now now old new result
+  pub begun_done : act ≡ Begun → IsTextTold (told n (codes "begun")) true old new result → IsDone s (due_to s n act) k now now old new result
   begun_done is h = subst (λ (x : Act). IsDone s (due_to s n x) k now now old new result) (sym is) (told_done s (told n (codes "begun")) true k now old new result a h)
 
-  pub queued_done : act ≡ Queued → IsTold (told n (codes "queued")) true old new result → IsDone s (due_to s n act) k now now old new result
+  pub queued_done : act ≡ Queued → IsTextTold (told n (codes "queued")) true old new result → IsDone s (due_to s n act) k now now old new result
   queued_done is h = subst (λ (x : Act). IsDone s (due_to s n x) k now now old new result) (sym is) (told_done s (told n (codes "queued")) true k now old new result a h)
 
-  pub aborted_done : act ≡ Aborted → IsTold (told n (codes "aborted")) true old new result → IsDone s (due_to s n act) k now now old new result
+  pub aborted_done : act ≡ Aborted → IsTextTold (told n (codes "aborted")) true old new result → IsDone s (due_to s n act) k now now old new result
   aborted_done is h = subst (λ (x : Act). IsDone s (due_to s n x) k now now old new result) (sym is) (told_done s (told n (codes "aborted")) true k now old new result a h)
 
-  pub err_begun_done : act ≡ ErrBegun → IsTold (told n (codes "error begun")) false old new result → IsDone s (due_to s n act) k now now old new result
+  pub err_begun_done : act ≡ ErrBegun → IsTextTold (told n (codes "error begun")) false old new result → IsDone s (due_to s n act) k now now old new result
   err_begun_done is h = subst (λ (x : Act). IsDone s (due_to s n x) k now now old new result) (sym is) (told_done s (told n (codes "error begun")) false k now old new result a h)
 
-  pub err_not_begun_done : act ≡ ErrNotBegun → IsTold (told n (codes "error not begun")) false old new result → IsDone s (due_to s n act) k now now old new result
+  pub err_not_begun_done : act ≡ ErrNotBegun → IsTextTold (told n (codes "error not begun")) false old new result → IsDone s (due_to s n act) k now now old new result
   err_not_begun_done is h = subst (λ (x : Act). IsDone s (due_to s n x) k now now old new result) (sym is) (told_done s (told n (codes "error not begun")) false k now old new result a h)
 
-  pub err_batch_done : act ≡ ErrBatch → IsTold (told n (codes "error batch")) false old new result → IsDone s (due_to s n act) k now now old new result
+  pub err_batch_done : act ≡ ErrBatch → IsTextTold (told n (codes "error batch")) false old new result → IsDone s (due_to s n act) k now now old new result
   err_batch_done is h = subst (λ (x : Act). IsDone s (due_to s n x) k now now old new result) (sym is) (told_done s (told n (codes "error batch")) false k now old new result a h)
 
 -- ---- a batch is run
@@ -215,11 +215,11 @@ due_line s text fine = record { reply = text; fine = fine; next = s; commits = 0
 -- where what is due was done, and what waits is what the events leave open, it was answered
 pub due_answers : (p : Point) (a : Asked) (d : Due) (hand : AtHand) (first last : Seen) (old new : Option (List ℕ)) (result : Result Bool RunError)
     → d ≡ due_of p a
-    → IsDone p.state d hand.session first last old new result → OnOk result (AreSlotsOf hand.slots (next_point p a).before) → IsAnswer p a hand first last old new result
+    → IsDone p.state d hand.session first last old new result → OnOk result (AreSlotsOf hand.slots (next_point p a).before) → TellsAnswer p a hand first last old new result
 due_answers p a d hand first last old new result is done stands =
     by_result result (subst (λ (x : Due). IsDone p.state x hand.session first last old new result) is done) stands
   where
-    by_result : (r : Result Bool RunError) → IsDone p.state (due_of p a) hand.session first last old new r → OnOk r (AreSlotsOf hand.slots (next_point p a).before) → IsAnswer p a hand first last old new r
+    by_result : (r : Result Bool RunError) → IsDone p.state (due_of p a) hand.session first last old new r → OnOk r (AreSlotsOf hand.slots (next_point p a).before) → TellsAnswer p a hand first last old new r
     by_result (Ok fine) h s = record { carried = lands_carried p a hand.session first last h.0; stands = s; written = h.2; told_fine = h.1 }
     by_result (Err Sink) h s = (lands_carried p a hand.session first last h.0, h.1)
     by_result (Err Source) h s = (stays_carried p hand.session first last h.0, h.1)
@@ -230,7 +230,7 @@ due_answers p a d hand first last old new result is done stands =
 -- an act was answered, which is that of an event
 pub event_answers : (p : Point) (n : ℕ) (l : Line) (act : Act) (hand : AtHand) (first last : Seen) (old new : Option (List ℕ)) (result : Result Bool RunError)
     → act ≡ act_after p.before (record { session = n; line = l }) → IsDone p.state (due_to p.state n act) hand.session first last old new result
-    → AreSlotsOf hand.slots (p.before ++ record { session = n; line = l } ∷ []) → IsAnswer p (piece (Read.Event (record { session = n; line = l }))) hand first last old new result
+    → AreSlotsOf hand.slots (p.before ++ record { session = n; line = l } ∷ []) → TellsAnswer p (piece (Read.Event (record { session = n; line = l }))) hand first last old new result
 event_answers p n l act hand first last old new result is done stands =
     due_answers p (piece (Read.Event (record { session = n; line = l }))) (due_to p.state n act) hand first last old new result (ap (due_to p.state n) is) done (on_ok result stands)
   where
@@ -240,7 +240,7 @@ event_answers p n l act hand first last old new result is done stands =
 
 -- a line alone was told, of what is no event
 pub line_answers : (p : Point) (a : Asked) (text : List ℕ) (fine : Bool) (hand : AtHand) (now : Seen) (old new : Option (List ℕ)) (result : Result Bool RunError)
-    → due_line p.state text fine ≡ due_of p a → (next_point p a).before ≡ p.before ++ [] → IsAt now.kept hand p → IsTold text fine old new result → IsAnswer p a hand now now old new result
+    → due_line p.state text fine ≡ due_of p a → (next_point p a).before ≡ p.before ++ [] → IsAt now.kept hand p → IsTextTold text fine old new result → TellsAnswer p a hand now now old new result
 line_answers p a text fine hand now old new result is kept at h =
     due_answers p a (due_line p.state text fine) hand now now old new result is (told_done p.state text fine hand.session now old new result at.agrees h)
     (on_ok result (subst (AreSlotsOf hand.slots) (sym (kept ∙ append-nil p.before)) at.stands))
@@ -250,7 +250,7 @@ line_answers p a text fine hand now old new result is kept at h =
     on_ok (Err e) s = tt
 
 -- after an Ok what is at hand has come to some point
-pub answer_at : (p : Point) (a : Asked) (hand : AtHand) (first now : Seen) (old new : Option (List ℕ)) (result : Result Bool RunError) → IsAnswer p a hand first now old new result
+pub answer_at : (p : Point) (a : Asked) (hand : AtHand) (first now : Seen) (old new : Option (List ℕ)) (result : Result Bool RunError) → TellsAnswer p a hand first now old new result
     → RemembersSome now.kept hand.session → OnOk result (IsAtSome now.kept hand)
 answer_at p a hand first now old new (Ok fine) h k =
     record { point = next_point p a; at = record { agrees = h.carried.agrees; stands = h.stands }; remembers = k }
@@ -265,23 +265,23 @@ some_timeline t hand h = h.remembers
 
 -- a piece that is no event was answered by a line, or by nothing
 module _ (p : Point) (r : Read) (hand : AtHand) (now : Seen) (old new : Option (List ℕ)) (result : Result Bool RunError) (at : IsAt now.kept hand p) where
-  pub nothing_answers : r ≡ Read.Nothing → IsTold [] true old new result → IsAnswer p (piece r) hand now now old new result
-  nothing_answers is h = subst (λ (x : Read). IsAnswer p (piece x) hand now now old new result) (sym is) (line_answers p (piece Read.Nothing) [] true hand now old new result refl refl at h)
+  pub nothing_answers : r ≡ Read.Nothing → IsTextTold [] true old new result → TellsAnswer p (piece r) hand now now old new result
+  nothing_answers is h = subst (λ (x : Read). TellsAnswer p (piece x) hand now now old new result) (sym is) (line_answers p (piece Read.Nothing) [] true hand now old new result refl refl at h)
 
-  pub long_answers : r ≡ Read.Long → IsTold (line (codes "error long")) false old new result → IsAnswer p (piece r) hand now now old new result
-  long_answers is h = subst (λ (x : Read). IsAnswer p (piece x) hand now now old new result) (sym is) (line_answers p (piece Read.Long) (line (codes "error long")) false hand now old new result refl refl at h)
+  pub long_answers : r ≡ Read.Long → IsTextTold (line (codes "error long")) false old new result → TellsAnswer p (piece r) hand now now old new result
+  long_answers is h = subst (λ (x : Read). TellsAnswer p (piece x) hand now now old new result) (sym is) (line_answers p (piece Read.Long) (line (codes "error long")) false hand now old new result refl refl at h)
 
-  pub no_session_answers : r ≡ Read.NoSession → IsTold (line (codes "error session")) false old new result → IsAnswer p (piece r) hand now now old new result
+  pub no_session_answers : r ≡ Read.NoSession → IsTextTold (line (codes "error session")) false old new result → TellsAnswer p (piece r) hand now now old new result
   no_session_answers is h =
-      subst (λ (x : Read). IsAnswer p (piece x) hand now now old new result) (sym is) (line_answers p (piece Read.NoSession) (line (codes "error session")) false hand now old new result refl refl at h)
+      subst (λ (x : Read). TellsAnswer p (piece x) hand now now old new result) (sym is) (line_answers p (piece Read.NoSession) (line (codes "error session")) false hand now old new result refl refl at h)
 
-  pub no_line_answers : (n : ℕ) → r ≡ Read.NoLine n → IsTold (told n (codes "error line")) false old new result → IsAnswer p (piece r) hand now now old new result
+  pub no_line_answers : (n : ℕ) → r ≡ Read.NoLine n → IsTextTold (told n (codes "error line")) false old new result → TellsAnswer p (piece r) hand now now old new result
   no_line_answers n is h =
-      subst (λ (x : Read). IsAnswer p (piece x) hand now now old new result) (sym is) (line_answers p (piece (Read.NoLine n)) (told n (codes "error line")) false hand now old new result refl refl at h)
+      subst (λ (x : Read). TellsAnswer p (piece x) hand now now old new result) (sym is) (line_answers p (piece (Read.NoLine n)) (told n (codes "error line")) false hand now old new result refl refl at h)
 
 -- a rest that holds something was told
-pub unfinished_answers : (p : Point) (hand : AtHand) (now : Seen) (old new : Option (List ℕ)) (result : Result Bool RunError) → IsAt now.kept hand p → IsTold (rest_reply true) false old new result
-    → IsAnswer p unfinished hand now now old new result
+pub unfinished_answers : (p : Point) (hand : AtHand) (now : Seen) (old new : Option (List ℕ)) (result : Result Bool RunError) → IsAt now.kept hand p → IsTextTold (rest_reply true) false old new result
+    → TellsAnswer p unfinished hand now now old new result
 unfinished_answers p hand now old new result at h = line_answers p unfinished (rest_reply true) false hand now old new result refl (sym (append-nil p.before)) at h
 
 pub named : (r s : Read) → r ≡ s → NamesSession r → NamesSession s

@@ -5,7 +5,7 @@ use Rattle.bdb_events.specs.Pieces.{read_of}
 use Rattle.bdb_events.specs.declared.read.Read.{Read}
 use Rattle.bdb_lex.specs.Cut.{pieces_of, has_rest, rest_of}
 use Rattle.bdb_many.specs.Many.{act_next, after_batches, events_in}
-use Rattle.bdb_multi.specs.Batches.{Ran, ran_at, ran_from, run_of}
+use Rattle.bdb_multi.specs.Batches.{RanBatch, ran_at, ran_from, run_of}
 use Rattle.bdb_multi.specs.Sessions.{Commands, act_after, acts_from}
 use Rattle.bdb_multi.specs.declared.kinds.Act.{Act}
 use Rattle.bdb_multi.specs.declared.kinds.Act.TheVariants.{Begun, Queued, Aborted, ErrBegun, ErrNotBegun, ErrBatch, One, Batch}
@@ -73,7 +73,7 @@ abbrev leads : ℕ → Point → List Asked → State
 leads k p asked = (after p (before_commit k p asked)).state
 
 -- the state after the first k of these batches that are committed
-abbrev leads_by : ℕ → State → List Ran → State
+abbrev leads_by : ℕ → State → List RanBatch → State
 leads_by k s batches = after_batches session_batches s (first_committed session_batches k s batches)
 
 not_below : (k c : ℕ) → c ≡ 0 → nat_lt k c ≡ false
@@ -101,12 +101,12 @@ leads_past : (k : ℕ) (p : Point) (a : Asked) (asked : List Asked) → commits_
 leads_past k p a asked e = leads_on k k p a asked (not_below k (commits_by p a) e) (less_nothing k (commits_by p a) e)
 
 -- the first batches are those that the rest leads by, where this commits nothing and leaves the state
-idle_step : (k : ℕ) (p : Point) (a : Asked) (asked : List Asked) (rest : List Ran) → commits_by p a ≡ 0 → (next_point p a).state ≡ p.state
+idle_step : (k : ℕ) (p : Point) (a : Asked) (asked : List Asked) (rest : List RanBatch) → commits_by p a ≡ 0 → (next_point p a).state ≡ p.state
     → ((j : ℕ) → leads j (next_point p a) asked ≡ leads_by j (next_point p a).state rest) → leads k p (a ∷ asked) ≡ leads_by k p.state rest
 idle_step k p a asked rest none same h = leads_past k p a asked none ∙ h k ∙ ap (λ (t : State). leads_by k t rest) same
 
 -- and where it runs a batch
-whole_step : (k : ℕ) (p : Point) (a : Asked) (asked : List Asked) (b : Ran) (rest : List Ran) → commits_by p a ≡ 1 → (next_point p a).state ≡ batch_state p.state (pieces b.commands)
+whole_step : (k : ℕ) (p : Point) (a : Asked) (asked : List Asked) (b : RanBatch) (rest : List RanBatch) → commits_by p a ≡ 1 → (next_point p a).state ≡ batch_state p.state (pieces b.commands)
     → accepts_all p.state (pieces b.commands) ≡ true
     → ((j : ℕ) → leads j (next_point p a) asked ≡ leads_by j (next_point p a).state rest) → leads k p (a ∷ asked) ≡ leads_by k p.state (b ∷ rest)
 whole_step zero p a asked b rest one next t h =
@@ -115,9 +115,9 @@ whole_step (suc k) p a asked b rest one next t h =
     let s = p.state in
     let others = committed_among session_batches (batch_state s (pieces b.commands)) rest in
     leads_on (suc k) k p a asked (not_below_one k (commits_by p a) one) (less_one k (commits_by p a) one) ∙ h k ∙ ap (λ (x : State). leads_by k x rest) next
-    ∙ sym (ap (λ (l : List Ran). after_batches session_batches s (take (suc k) l)) (cond-true (accepts_all s (pieces b.commands)) (b ∷ others) (committed_among session_batches s rest) t))
+    ∙ sym (ap (λ (l : List RanBatch). after_batches session_batches s (take (suc k) l)) (cond-true (accepts_all s (pieces b.commands)) (b ∷ others) (committed_among session_batches s rest) t))
 
-batch_step : (k : ℕ) (p : Point) (a : Asked) (asked : List Asked) (b : Ran) (rest : List Ran) → commits_by p a ≡ commits_of session_batches p.state b.commands
+batch_step : (k : ℕ) (p : Point) (a : Asked) (asked : List Asked) (b : RanBatch) (rest : List RanBatch) → commits_by p a ≡ commits_of session_batches p.state b.commands
     → (next_point p a).state ≡ batch_state p.state (pieces b.commands)
     → ((j : ℕ) → leads j (next_point p a) asked ≡ leads_by j (next_point p a).state rest) → leads k p (a ∷ asked) ≡ leads_by k p.state (b ∷ rest)
 batch_step k p a asked b rest commits next h =
@@ -127,10 +127,10 @@ batch_step k p a asked b rest commits next h =
     elim (cases_Bool whole) [
       | inl t ↦ whole_step k p a asked b rest (commits ∙ cond-true whole 1 0 t) next t h
       | inr f ↦ idle_step k p a asked rest (commits ∙ cond-false whole 1 0 f) (next ∙ broken s b.commands f) h
-          ∙ sym (ap (λ (l : List Ran). after_batches session_batches s (take k l)) (cond-false whole (b ∷ others) (committed_among session_batches s rest) f))
+          ∙ sym (ap (λ (l : List RanBatch). after_batches session_batches s (take k l)) (cond-false whole (b ∷ others) (committed_among session_batches s rest) f))
     ]
 
-act_step : (act : Act) (k place n : ℕ) (p : Point) (a : Asked) (asked : List Asked) (rest : List Ran) → commits_by p a ≡ act_commits session_batches p.state act
+act_step : (act : Act) (k place n : ℕ) (p : Point) (a : Asked) (asked : List Asked) (rest : List RanBatch) → commits_by p a ≡ act_commits session_batches p.state act
     → (next_point p a).state ≡ act_next session_batches p.state act
     → ((j : ℕ) → leads j (next_point p a) asked ≡ leads_by j (next_point p a).state rest) → leads k p (a ∷ asked) ≡ leads_by k p.state (ran_at place n (run_of act) ++ rest)
 act_step Begun k place n p a asked rest commits next h = idle_step k p a asked rest commits next h

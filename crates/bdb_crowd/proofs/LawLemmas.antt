@@ -7,7 +7,7 @@ use Rattle.bdb_lex.specs.declared.token.Piece.{Piece}
 use Rattle.bdb_events.specs.Pieces.{read_of}
 use Rattle.bdb_events.specs.declared.read.Read.{Read}
 use Rattle.bdb_many.specs.Many.{act_next, after_from, events_in, replies_from, rest_reply}
-use Rattle.bdb_multi.specs.Batches.{Ran, ran_at, ran_from, run_of}
+use Rattle.bdb_multi.specs.Batches.{RanBatch, ran_at, ran_from, run_of}
 use Rattle.bdb_multi.specs.Sessions.{act_after, acts_from}
 use Rattle.bdb_multi.specs.declared.kinds.Act.{Act}
 use Rattle.bdb_multi.specs.declared.kinds.Act.TheVariants.{Begun, Queued, Aborted, ErrBegun, ErrNotBegun, ErrBatch, One, Batch}
@@ -57,7 +57,7 @@ and_nothing n m e = omega (arith, e)
 three : (k m n : ℕ) → k + (m + n) ≡ k + m + n
 three k m n = omega arith
 
-act_commits_as : (s : State) (a : Act) (place n : ℕ) (rest : List Ran)
+act_commits_as : (s : State) (a : Act) (place n : ℕ) (rest : List RanBatch)
     → act_commits session_batches s a + committed_of session_batches (act_next session_batches s a) rest ≡ committed_of session_batches s (ran_at place n (run_of a) ++ rest)
 act_commits_as s Begun place n rest = nothing_more (committed_of session_batches s rest)
 act_commits_as s Queued place n rest = nothing_more (committed_of session_batches s rest)

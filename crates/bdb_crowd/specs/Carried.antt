@@ -66,5 +66,5 @@ Carried p done session first now = handled.Carried by_crowd p done session first
 
 -- How one was answered: with an Ok it was carried out and the reply is written; where the sink failed it was carried out and a part of
 -- the reply is written; after another Err nothing was carried out or written.
-abbrev pub IsAnswer : Point → Asked → AtHand → Seen → Seen → Option (List ℕ) → Option (List ℕ) → Result Bool RunError → Type 0
-IsAnswer p a hand first now old new result = handled.IsAnswer by_crowd p a hand first now old new result
+abbrev pub TellsAnswer : Point → Asked → AtHand → Seen → Seen → Option (List ℕ) → Option (List ℕ) → Result Bool RunError → Type 0
+TellsAnswer p a hand first now old new result = handled.TellsAnswer by_crowd p a hand first now old new result

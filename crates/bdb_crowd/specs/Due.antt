@@ -82,10 +82,10 @@ IsDone s d session first now old new (Err Sink) = Lands d.next d.commits session
 IsDone s d session first now old new (Err _) = Lands s 0 session first now × Appends old new []
 
 -- how a text was told, which tells an error or doesn't: whole, or where the sink failed a part of it
-abbrev pub IsTold : List ℕ → Bool → Option (List ℕ) → Option (List ℕ) → Result Bool RunError → Type 0
-IsTold text fine old new (Ok is) = (is ≡ fine) × Appends old new text
-IsTold text fine old new (Err Sink) = (part : ℕ) × Appends old new (take part text)
-IsTold text fine old new (Err _) = ⊥
+abbrev pub IsTextTold : List ℕ → Bool → Option (List ℕ) → Option (List ℕ) → Result Bool RunError → Type 0
+IsTextTold text fine old new (Ok is) = (is ≡ fine) × Appends old new text
+IsTextTold text fine old new (Err Sink) = (part : ℕ) × Appends old new (take part text)
+IsTextTold text fine old new (Err _) = ⊥
 
 -- how commands were run as one batch
 abbrev pub IsRunBy : State → Commands → Known → Seen → Seen → Result BatchReply RunError → Type 0

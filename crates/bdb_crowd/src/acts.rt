@@ -9,7 +9,7 @@ ghost use Rattle.bdb_multi.specs.declared.kinds.Act.TheVariants.{One, Batch};
 ghost use Rattle.bdb_multi.specs.Sessions.{most_queued, sessions};
 ghost use Rattle.bdb_session.specs.Known.{Agrees, RemembersSome};
 ghost use Rattle.bdb_session.specs.Outcome.{State};
-ghost use Rattle.bdb_crowd.specs.Due.{IsDone, IsRunBy, IsTold, IsWaiting, due_to, end_line};
+ghost use Rattle.bdb_crowd.specs.Due.{IsDone, IsRunBy, IsTextTold, IsWaiting, due_to, end_line};
 
 use crate::write::{write_count, write_labelled, write_line};
 use bdb_base::List;
@@ -62,7 +62,7 @@ pub fn answer_act<O: Sink, K: Keeper>(
 /// Writes a line of a session. Ok tells whether it tells no error.
 pub fn tell<O: Sink>(out: &mut O, number: u8, line: &[u8], fine: bool) -> Result<bool, RunError>
     requires { number < sessions }
-    ensures told { IsTold (label number ++ line.now) fine (O.written out.old) (O.written out.new)
+    ensures told { IsTextTold (label number ++ line.now) fine (O.written out.old) (O.written out.new)
         result }
     ensures later { O.faults out.old ≤ O.faults out.new }
     ensures sink { IsErrOf result RunError.Sink → Rose (O.faults out.old) (O.faults out.new) }
@@ -78,7 +78,7 @@ pub fn tell<O: Sink>(out: &mut O, number: u8, line: &[u8], fine: bool) -> Result
 
 /// Writes a line that tells an error, of no session.
 pub fn tell_error<O: Sink>(out: &mut O, line: &[u8]) -> Result<bool, RunError>
-    ensures told { IsTold line.now false (O.written out.old) (O.written out.new) result }
+    ensures told { IsTextTold line.now false (O.written out.old) (O.written out.new) result }
     ensures later { O.faults out.old ≤ O.faults out.new }
     ensures sink { IsErrOf result RunError.Sink → Rose (O.faults out.old) (O.faults out.new) }
     ensures source { OnErr result (IsErrOf result RunError.Source → ⊥) }

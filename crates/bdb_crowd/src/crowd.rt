@@ -41,7 +41,7 @@ impl Model for Crowd {
 }
 
 ghost use Rattle.bdb_crowd.specs.Asked.{Point, piece, start_at};
-ghost use Rattle.bdb_crowd.specs.Carried.{IsAnswer, IsAt, IsAtSome, by_crowd, crowd_in_order};
+ghost use Rattle.bdb_crowd.specs.Carried.{IsAt, IsAtSome, TellsAnswer, by_crowd, crowd_in_order};
 
 impl Crowd {
     /// A stream that has not begun, over the base of a session: no batch is open. It takes no memory.
@@ -69,7 +69,7 @@ impl Crowd {
         requires at { IsAtSome (K.seen keeper.old).kept self.old }
         requires names { NamesSession read }
         ensures answered { (p : Point) → IsAt (K.seen keeper.old).kept self.old p
-            → IsAnswer p (piece read) self.new (K.seen keeper.old) (K.seen keeper.new)
+            → TellsAnswer p (piece read) self.new (K.seen keeper.old) (K.seen keeper.new)
             (O.written out.old) (O.written out.new) result }
         ensures still { IsStill (K.seen keeper.new) }
         ensures agrees { RemembersSome (K.seen keeper.new).kept self.new.session }
@@ -102,7 +102,7 @@ impl Crowd {
         requires at { IsAtSome (K.seen keeper.old).kept self.old }
         requires number { number < sessions }
         ensures answered { (p : Point) → IsAt (K.seen keeper.old).kept self.old p
-            → IsAnswer p (piece (Read.Event (record { session = number; line = line }))) self.new
+            → TellsAnswer p (piece (Read.Event (record { session = number; line = line }))) self.new
             (K.seen keeper.old) (K.seen keeper.new) (O.written out.old) (O.written out.new) result }
         ensures still { IsStill (K.seen keeper.new) }
         ensures agrees { RemembersSome (K.seen keeper.new).kept self.new.session }

@@ -20,7 +20,7 @@ use Rattle.bdb_tables.specs.InUse.{val_bytes, val_codec}
 use Rattle.bdb_tables.specs.InUseLaws.{vals_are_one, mark_rows_are_one}
 use Rattle.bdb_tables.specs.Spans.{AreUnder, IsUnder, entry_bytes, entry_cmp}
 use Rattle.bdb_decode.specs.Explicit.{AreStated, Paths, TupleRows, ValRow, said}
-use Rattle.bdb_decode.specs.Many.{HaveNoStatements, IsThere}
+use Rattle.bdb_decode.specs.Many.{HaveNoStatements, IsRowThere}
 use Rattle.bdb_decode.proofs.RowLemmas.{misplaced_have_no_places}
 
 pub some_holds : {X : Type 0} (Q : X → Type 0) (r : Option X) (x : X) → r ≡ Some x → IfSome r Q → Q x
@@ -103,7 +103,7 @@ no_more f (x ∷ es) (d ∷ ds) s l a =
           omega (arith, all, le)
     ]
 
-all_among : (t : Tables) (es ds : List ValRow) → AreUnder val_codec t [] es → AllByRecursion (IsThere t) ds → AllByRecursion (λ d. Among d es) ds
+all_among : (t : Tables) (es ds : List ValRow) → AreUnder val_codec t [] es → AllByRecursion (IsRowThere t) ds → AllByRecursion (λ d. Among d es) ds
 all_among t es [] u a = tt
 all_among t es (d ∷ ds) u a = (
   found_among es u.each d (record { key = a.0.fits; row = tt; begins = refl }) (sym (u.found (val_bytes d.0) refl) ∙ a.0.found),

@@ -27,7 +27,7 @@ use Rattle.bdb_tables.proofs.ListLemmas.{prefix_rest}
 use Rattle.bdb_val.specs.Middle.{HasExplicit, worlds_of}
 use Rattle.bdb_entries.specs.Tuples.{HasTuples}
 use Rattle.bdb_decode.specs.Explicit.{Paths, TupleRows}
-use Rattle.bdb_decode.specs.ExplicitLaws.{HaveNumbers, HavePaths}
+use Rattle.bdb_decode.specs.ExplicitLaws.{AreNamedWorlds, HaveNumbers}
 use Rattle.bdb_decode.specs.Items.{item_of}
 use Rattle.bdb_decode.specs.Whole.{AreBaseStatements, AreHeldExplicit, BaseStatementsAreHeld}
 use Rattle.bdb_decode.proofs.SaidLemmas.{stated_given, stated_rows_are_explicit}
@@ -89,7 +89,7 @@ longer_said (x ∷ stmts) w h = elim (or_cases (is_prefix w x.path) (list_any (�
 -- ---- the law
 
 module _ (t : Tables) (c : Catalog) (worlds : Paths) (tuples : TupleRows) (stmts : List Stmt) (ns : Names) (ts : Tuples) (f : ValKey → Option Mark)
-    (catalog : IsCatalog c) (paths : HavePaths worlds ns) (has : HasTuples t ts) (named : (n : ℕ) → ts.tuple n ≡ item_of tuples n) (gives : Gives val_codec t f)
+    (catalog : IsCatalog c) (paths : AreNamedWorlds worlds ns) (has : HasTuples t ts) (named : (n : ℕ) → ts.tuple n ≡ item_of tuples n) (gives : Gives val_codec t f)
     (h : AreBaseStatements t c worlds tuples stmts) where
   abbrev keys : ℕ → ℕ
   keys = key_lengths c.rels

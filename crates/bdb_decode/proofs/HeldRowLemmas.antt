@@ -30,7 +30,7 @@ use Rattle.bdb_val.proofs.HeldLemmas.{held, held_names, held_rows_are_explicit, 
 use Rattle.bdb_val.proofs.ReadLemmas.{key_fits}
 use Rattle.bdb_val.proofs.WorldLemmas.{mark_has, mark_tells}
 use Rattle.bdb_decode.specs.Explicit.{AreMisplaced, AreStated, Paths, TupleRows, is_placed, is_placed_by}
-use Rattle.bdb_decode.specs.ExplicitLaws.{HaveNumbers, HavePaths, HeldRowsHavePlaces, HeldRowsMakeStatements}
+use Rattle.bdb_decode.specs.ExplicitLaws.{AreNamedWorlds, HaveNumbers, HeldRowsHavePlaces, HeldRowsMakeStatements}
 use Rattle.bdb_decode.specs.Items.{item_of}
 use Rattle.bdb_decode.proofs.OnceLemmas.{stated_ascend}
 use Rattle.bdb_decode.proofs.SaidLemmas.{given_stated, stated_given}
@@ -62,7 +62,7 @@ module _ (keys : ℕ → ℕ) (stmts : List Stmt) (ns : Names) (ts : Tuples) (t 
 pub held_rows_have_places : HeldRowsHavePlaces
 held_rows_have_places keys stmts ns ts t worlds tuples paths named h r = not_misplaced keys stmts ns ts t worlds tuples paths.paths named h r
 
-module _ (keys : ℕ → ℕ) (stmts xs : List Stmt) (ns : Names) (ts : Tuples) (t : Tables) (worlds : Paths) (tuples : TupleRows) (lengths : AreKeyLengths keys) (paths : HavePaths worlds ns)
+module _ (keys : ℕ → ℕ) (stmts xs : List Stmt) (ns : Names) (ts : Tuples) (t : Tables) (worlds : Paths) (tuples : TupleRows) (lengths : AreKeyLengths keys) (paths : AreNamedWorlds worlds ns)
     (named : (n : ℕ) → ts.tuple n ≡ item_of tuples n) (states : HasStates stmts (is_named ns)) (c : IsConsistent keys stmts)
     (h : HoldsTuples stmts ts t) (r : HoldsRows keys stmts (path_of ns) ts.tuple t) (a : AreStated keys t worlds tuples xs) where
   one : (a b : ℕ) (w : List ℕ) → item_of worlds a ≡ Some w → item_of worlds b ≡ Some w → a ≡ b

@@ -23,7 +23,7 @@ use Rattle.bdb_val.specs.Reads.{is_of_group}
 use Rattle.bdb_val.specs.Settling.{row_key}
 use Rattle.bdb_entries.specs.Tuples.{HasTuples}
 use Rattle.bdb_decode.specs.Explicit.{Paths, TupleRows, ValRow, is_placed, is_placed_by}
-use Rattle.bdb_decode.specs.ExplicitLaws.{HavePaths}
+use Rattle.bdb_decode.specs.ExplicitLaws.{AreNamedWorlds}
 use Rattle.bdb_decode.specs.Items.{item_of}
 use Rattle.bdb_decode.specs.SettledRows.{IsKeyed, PlacedRowsAreKeyed}
 
@@ -48,7 +48,7 @@ entry_of p (e ∷ es) a h q s =
           (ap is_some (sym (cond-false (eq_by_cmp bytes_cmp q (val_bytes e.0)) (Some (val_codec.row_bytes e.1)) (find bytes_cmp q (map (entry_bytes val_codec) es)) b)) ∙ s)
     ]
 
-module _ (keys : ℕ → ℕ) (t : Tables) (worlds : Paths) (tuples : TupleRows) (ns : Names) (ts : Tuples) (paths : HavePaths worlds ns) (depths : Gives depth_codec t (depth_of ns))
+module _ (keys : ℕ → ℕ) (t : Tables) (worlds : Paths) (tuples : TupleRows) (ns : Names) (ts : Tuples) (paths : AreNamedWorlds worlds ns) (depths : Gives depth_codec t (depth_of ns))
     (has : HasTuples t ts) (named : (n : ℕ) → ts.tuple n ≡ item_of tuples n) where
   placed_keyed : (e : ValRow) → IsValKey e.0 → is_placed keys worlds tuples e ≡ true → IsKeyed keys t e.0
   placed_keyed e fits = by (item_of worlds e.0.0) refl (item_of tuples e.0.3) refl

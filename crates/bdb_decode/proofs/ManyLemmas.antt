@@ -33,9 +33,9 @@ use Rattle.bdb_val.specs.Settling.{row_key}
 use Rattle.bdb_val.proofs.HeldLemmas.{held, right_row}
 use Rattle.bdb_val.proofs.WorldLemmas.{mark_tells}
 use Rattle.bdb_decode.specs.Explicit.{Paths, TupleRows, ValRow, is_placed, said, said_by}
-use Rattle.bdb_decode.specs.ExplicitLaws.{HavePaths}
+use Rattle.bdb_decode.specs.ExplicitLaws.{AreNamedWorlds}
 use Rattle.bdb_decode.specs.Items.{item_of}
-use Rattle.bdb_decode.specs.Many.{HaveTooMany, IsThere}
+use Rattle.bdb_decode.specs.Many.{HaveTooMany, IsRowThere}
 use Rattle.bdb_entries.proofs.ListedLemmas.{all_found}
 use Rattle.bdb_decode.proofs.OnceLemmas.{none_later}
 use Rattle.bdb_decode.proofs.RowLemmas.{SaidBelow, said_more}
@@ -65,7 +65,7 @@ said_many keys worlds tuples t u low behind found e stmts next ok same is own pl
     let s = said_more keys worlds tuples t u low behind found e stmts next ok same is own placed more h under in
     record {
       rows = s.rows;
-      there = all_both (IsUnder val_codec []) (λ (d : ValRow). tables.get t (place val_codec d.0) ≡ Some (mark_bytes d.1)) (IsThere t) s.rows
+      there = all_both (IsUnder val_codec []) (λ (d : ValRow). tables.get t (place val_codec d.0) ≡ Some (mark_bytes d.1)) (IsRowThere t) s.rows
           (λ d v f. record { fits = v.key; found = f }) s.covers.each (covers_found val_codec t behind s.rows s.covers);
       sorted = s.covers.sorted;
       placed = s.placed;
@@ -127,7 +127,7 @@ module _ (keys : ℕ → ℕ) (worlds : Paths) (tuples : TupleRows) (one : (a b 
 module _ (keys : ℕ → ℕ) (stmts : List Stmt) (ns : Names) (ts : Tuples) (t : Tables) (worlds : Paths) (tuples : TupleRows)
     (paths : (n : ℕ) → path_of ns n ≡ item_of worlds n) (named : (n : ℕ) → ts.tuple n ≡ item_of tuples n) (h : HoldsTuples stmts ts t)
     (r : HoldsRows keys stmts (path_of ns) ts.tuple t) where
-  row_is_stated : (x : Stmt) (e : ValRow) → IsThere t e → is_placed keys worlds tuples e ≡ true → list_any (same_as x) (said worlds tuples e) ≡ true → list_any (same_as x) stmts ≡ true
+  row_is_stated : (x : Stmt) (e : ValRow) → IsRowThere t e → is_placed keys worlds tuples e ≡ true → list_any (same_as x) (said worlds tuples e) ≡ true → list_any (same_as x) stmts ≡ true
   row_is_stated x e there placed makes =
       let m = makes_tells worlds tuples x.path x.tuple x.sign e makes in
       let p = placed_tells keys worlds tuples e placed in
@@ -138,7 +138,7 @@ module _ (keys : ℕ → ℕ) (stmts : List Stmt) (ns : Names) (ts : Tuples) (t 
       sym (mark_tells keys stmts x.path x.tuple (x.sign, true)
       (sym (right_row keys stmts stmts ns ts t h e.0.0 x.path e.0.3 x.tuple (paths e.0.0 ∙ m.path) (named e.0.3 ∙ m.tuple)) ∙ mark)).1
 
-  rows_are_stated : (rows : List ValRow) → AllByRecursion (IsThere t) rows → list_all (is_placed keys worlds tuples) rows ≡ true
+  rows_are_stated : (rows : List ValRow) → AllByRecursion (IsRowThere t) rows → list_all (is_placed keys worlds tuples) rows ≡ true
       → (x : Stmt) → list_any (same_as x) (flat_map (said worlds tuples) rows) ≡ true → list_any (same_as x) stmts ≡ true
   rows_are_stated [] there placed x e = absurd (false≢true e)
   rows_are_stated (d ∷ rows) there placed x e =
@@ -150,7 +150,7 @@ module _ (keys : ℕ → ℕ) (stmts : List Stmt) (ns : Names) (ts : Tuples) (t 
       ]
 
 -- a valid base that tables store under these names has not too many statements
-pub not_too_many : (b : Contents) (ns : Names) (ts : Tuples) (t : Tables) (worlds : Paths) (tuples : TupleRows) → StoredAs ns ts t b → IsValid b.catalog b.stmts → HavePaths worlds ns
+pub not_too_many : (b : Contents) (ns : Names) (ts : Tuples) (t : Tables) (worlds : Paths) (tuples : TupleRows) → StoredAs ns ts t b → IsValid b.catalog b.stmts → AreNamedWorlds worlds ns
     → ((n : ℕ) → ts.tuple n ≡ item_of tuples n) → HaveTooMany (key_lengths b.catalog.rels) t worlds tuples → ⊥
 not_too_many b ns ts t worlds tuples s v paths named h =
     let xs = flat_map (said worlds tuples) h.rows in

@@ -43,7 +43,7 @@ use Rattle.bdb_graph.specs.Ups.{HoldNoStates}
 use Rattle.bdb_names.specs.declared.named.NamedWorld.{NamedWorld}
 use Rattle.bdb_graph.proofs.HeldLemmas.{held_so, named_same, worlds_are_held}
 use Rattle.bdb_decode.specs.Explicit.{AreStated, Paths, TupleRows}
-use Rattle.bdb_decode.specs.ExplicitLaws.{HavePaths}
+use Rattle.bdb_decode.specs.ExplicitLaws.{AreNamedWorlds}
 use Rattle.bdb_decode.specs.Items.{item_of, number_cmp}
 use Rattle.bdb_decode.specs.Parts.{AreFormed, AreLinks, AreParts, ArePaths, HoldNoneOver, IsLink, StoreNone, TellsRowsOf, path_row}
 use Rattle.bdb_decode.specs.SettledRows.{AreCandidates, AreWorldsOf, TellsRows}
@@ -173,7 +173,7 @@ any_number : (links : List (ℕ × Option ℕ)) (n : ℕ) → list_any (λ (x : 
 any_number [] n = refl
 any_number (x ∷ links) n = ap (λ b. nat_eq x.0 n || b) (any_number links n)
 
-module _ (t : Tables) (worlds : Paths) (users : ℕ → Bool) (ns : Names) (paths : HavePaths worlds ns) (states : HoldsStates users ns t) (links : List (ℕ × Option ℕ)) (are : AreLinks t worlds links) where
+module _ (t : Tables) (worlds : Paths) (users : ℕ → Bool) (ns : Names) (paths : AreNamedWorlds worlds ns) (states : HoldsStates users ns t) (links : List (ℕ × Option ℕ)) (are : AreLinks t worlds links) where
   named_links : (n : ℕ) → is_some (path_of ns n) ≡ list_any (λ (x : ℕ × Option ℕ). nat_eq x.0 n) links
   named_links n =
       ap is_some (paths.paths n) ∙ has_number worlds n ∙ ap (list_any (λ k. nat_eq k n)) (sym are.numbers) ∙ sym (any_number links n)

@@ -26,14 +26,14 @@ use Rattle.bdb_tables.proofs.WriteLemmas.{gives_same}
 use Rattle.bdb_val.specs.Middle.{worlds_of, HasExplicit, AreSettledBut}
 use Rattle.bdb_val.specs.Reads.{AreReadUnder, HasRows, HaveTuples, world_prefix}
 use Rattle.bdb_val.specs.Settled.{settled_mark, sign_at}
-use Rattle.bdb_val.specs.Settling.{mark_in, next_mark, AreNamed, are_apart, row_key}
+use Rattle.bdb_val.specs.Settling.{mark_in, next_mark, AreNamed, numbers_are_apart, row_key}
 use Rattle.bdb_val.specs.Steps.{IsSettling, rows_made}
 use Rattle.bdb_val.specs.declared.stored.StoredRow.{StoredRow}
 use Rattle.bdb_val.proofs.HeldLemmas.{names_are_linked, settled_rows_are_held, held_rows_are_explicit, held_rows_are_settled}
 use Rattle.bdb_val.proofs.ReadLemmas.{read_named, read_apart, world_span}
 use Rattle.bdb_val.proofs.StepLemmas.{own_mark, next_after, settled_after}
 use Rattle.bdb_entries.proofs.TupleLemmas.{given_is}
-use Rattle.bdb_decode.specs.SettledRows.{AreCandidates, AreKeyed, AreLinked, IsKeyed, TellsRows, TellsWorld, TellsWorlds}
+use Rattle.bdb_decode.specs.SettledRows.{AreCandidates, AreKeyed, AreLinkedRows, IsKeyed, TellsRows, TellsWorld, TellsWorlds}
 use Rattle.bdb_decode.specs.Settles.{settles}
 use Rattle.bdb_decode.proofs.GivenLemmas.{given, given_gives}
 use Rattle.bdb_decode.proofs.SettlesLemmas.{settled_next, next_settles}
@@ -71,11 +71,11 @@ module _ (keys : ℕ → ℕ) (stmts : List Stmt) (ns : Names) (tuple : ℕ → 
     from_named : AreNamed tuple from
     from_named = by_link (AreNamed tuple) tt (λ m n r. read_named keys tuple f t h.rows (world_prefix m) from r)
 
-    own_apart : are_apart own ≡ true
+    own_apart : numbers_are_apart own ≡ true
     own_apart = read_apart keys tuple f t h.rows wid (λ _. true) (world_prefix wid) own (world_span keys wid size) own_read
 
-    from_apart : are_apart from ≡ true
-    from_apart = by_link (λ xs. are_apart xs ≡ true) refl (λ m n r. read_apart keys tuple f t h.rows m (λ _. true) (world_prefix m) from (world_span keys m n) r)
+    from_apart : numbers_are_apart from ≡ true
+    from_apart = by_link (λ xs. numbers_are_apart xs ≡ true) refl (λ m n r. read_apart keys tuple f t h.rows m (λ _. true) (world_prefix m) from (world_span keys m n) r)
 
     -- the tables in which the changes that settle the world are made
     abbrev after : Tables
@@ -185,8 +185,8 @@ rows_told keys t worlds b fits keyed h stmts ns ts c = by b h
 pub world_told : (keys : ℕ → ℕ) (t u : Tables) (x : ℕ × Option ℕ) (a b : Bool) → u ≡ t → a ≡ b → TellsWorld keys u x a → TellsWorld keys t x b
 world_told keys t u x a b same is h = subst (λ v. TellsWorld keys v x b) same (subst (TellsWorld keys u x) is h)
 
-pub linked_none : (t : Tables) (rows : List StoredRow) → rows ≡ [] → AreLinked t None rows
-linked_none t rows none = record { read = none; apart = ap are_apart none }
+pub linked_none : (t : Tables) (rows : List StoredRow) → rows ≡ [] → AreLinkedRows t None rows
+linked_none t rows none = record { read = none; apart = ap numbers_are_apart none }
 
 pub keyed_tuples : (keys : ℕ → ℕ) (t : Tables) → AreKeyed keys t → HaveTuples t
 keyed_tuples keys t keyed k v s = ap is_some (keyed.each k v s).stands.found
@@ -231,7 +231,7 @@ module _ (keys : ℕ → ℕ) (t : Tables) (g : InGrammar t) (keyed : AreKeyed k
   }
 
   -- rows of one world that are read are of tuples of their own
-  pub keyed_apart : (wid : ℕ) → IsNum wid → (xs : List StoredRow) → AreReadUnder t (world_prefix wid) xs → are_apart xs ≡ true
+  pub keyed_apart : (wid : ℕ) → IsNum wid → (xs : List StoredRow) → AreReadUnder t (world_prefix wid) xs → numbers_are_apart xs ≡ true
   keyed_apart wid size xs r = read_apart keys given_tuple given_row t rows_given wid (λ _. true) (world_prefix wid) xs (world_span keys wid size) r
 
 -- ---- a world of a list, by its place

@@ -15,7 +15,7 @@ use Rattle.bdb_tables.proofs.Loops.{all_at_index}
 use Rattle.bdb_tables.specs.Marks.{Mark, sign_of, explicit_of}
 use Rattle.bdb_update.proofs.ExplicitLemmas.{unfiltered}
 use Rattle.bdb_val.specs.Settled.{settled_mark, passed_on, is_barred}
-use Rattle.bdb_val.specs.Settling.{mark_in, barred_by, next_mark, AreNamed, are_apart}
+use Rattle.bdb_val.specs.Settling.{mark_in, barred_by, next_mark, AreNamed, numbers_are_apart}
 use Rattle.bdb_val.specs.declared.stored.StoredRow.{StoredRow}
 use Rattle.bdb_val.proofs.SettlingLemmas.{mark_is_some}
 use Rattle.bdb_val.proofs.StepLemmas.{mark_of_each}
@@ -211,7 +211,7 @@ module _ (keys : ℕ → ℕ) (tuple : ℕ → Option Tuple) (own from : List St
       ]
 
   -- the test is passed, where each tuple has the row that it is to have
-  pub next_settles : are_apart own ≡ true → are_apart from ≡ true → ((tid : ℕ) (u : Tuple) → tuple tid ≡ Some u → mark_in own tid ≡ next_mark keys own from tid u) → settles keys own from ≡ true
+  pub next_settles : numbers_are_apart own ≡ true → numbers_are_apart from ≡ true → ((tid : ℕ) (u : Tuple) → tuple tid ≡ Some u → mark_in own tid ≡ next_mark keys own from tid u) → settles keys own from ≡ true
   next_settles c d h = and_from (list_all (is_fitting keys stated from) inherited) (list_all (is_passed keys stated inherited) from)
       (true_all (is_fitting keys stated from) inherited (kept_all (λ x. is_fitting keys stated from x ≡ true) is_inherited own
       (all_both (λ x. tuple x.tid ≡ Some x.tuple) (λ x. mark_in own x.tid ≡ Some x.mark) (λ x. is_inherited x ≡ true → is_fitting keys stated from x ≡ true) own fit a (mark_of_each own own (λ _ _ k. k) c))))
@@ -238,7 +238,7 @@ module _ (keys : ℕ → ℕ) (tuple : ℕ → Option Tuple) (own from : List St
 
 -- ---- where a row is found
 
-pub found_here : (rows : List StoredRow) (i tid : ℕ) (x : StoredRow) → i < length rows → x ≡ get_or rows i x → are_apart rows ≡ true → x.tid ≡ tid → Some x.mark ≡ mark_in rows tid
+pub found_here : (rows : List StoredRow) (i tid : ℕ) (x : StoredRow) → i < length rows → x ≡ get_or rows i x → numbers_are_apart rows ≡ true → x.tid ≡ tid → Some x.mark ≡ mark_in rows tid
 found_here rows i tid x lt is a e =
     sym (ap (mark_in rows) (sym e) ∙ all_at_index (λ y. mark_in rows y.tid ≡ Some y.mark) rows i x lt is (mark_of_each rows rows (λ _ _ k. k) a))
 

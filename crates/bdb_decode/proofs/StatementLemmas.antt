@@ -26,7 +26,7 @@ use Rattle.bdb_base.proofs.ClashLemmas.{turned, clash_is_symmetric}
 use Rattle.bdb_base.proofs.ListLemmas.{list_all_weaker, list_all_both, list_all_from_none, list_all-filter, filter_kept_one, filter_dropped_one}
 use Rattle.bdb_base.proofs.SetLemmas.{is_lt-Less, filter_keeps_order}
 use Rattle.bdb_update.proofs.ClashingLemmas.{keys_tell}
-use Rattle.bdb_decode.specs.Statements.{are_apart, are_consistent, are_few, below_next, below_plus, climbs, group_cmp, is_plus, place_cmp, plus_climb}
+use Rattle.bdb_decode.specs.Statements.{are_consistent, are_few, are_ordered_apart, below_next, below_plus, climbs, group_cmp, is_plus, place_cmp, plus_climb}
 
 -- ---- neighbours, and all pairs
 
@@ -354,7 +354,7 @@ record IsApart (keys : ℕ → ℕ) (xs : List Stmt) : Type 0 where
   sorted : ascending statement_cmp xs ≡ true
   no_clash : no_clash keys xs ≡ true
 
-apart_holds : (keys : ℕ → ℕ) (xs : List Stmt) → are_apart keys xs ≡ true → IsApart keys xs
+apart_holds : (keys : ℕ → ℕ) (xs : List Stmt) → are_ordered_apart keys xs ≡ true → IsApart keys xs
 apart_holds keys xs h =
     let k = and_parts (climbs place_cmp xs) (plus_climb keys xs) h in
     let up = climbs_ascend place_cmp place_total xs k.0 in
@@ -365,7 +365,7 @@ every : (xs : List Stmt) → list_all (λ _. true) xs ≡ true
 every [] = refl
 every (x ∷ xs) = every xs
 
-apart_passes : (keys : ℕ → ℕ) (xs : List Stmt) → ascending statement_cmp xs ≡ true → no_clash keys xs ≡ true → are_apart keys xs ≡ true
+apart_passes : (keys : ℕ → ℕ) (xs : List Stmt) → ascending statement_cmp xs ≡ true → no_clash keys xs ≡ true → are_ordered_apart keys xs ≡ true
 apart_passes keys xs up free =
     let pairs = pairs_from_all (opposes keys) xs free in
     let places = ascending_by statement_cmp place_cmp (opposes keys) (λ _. true) (λ x y _ _ h o. place_below keys x y h o) xs (every xs) pairs up in
@@ -375,14 +375,14 @@ apart_passes keys xs up free =
 
 pub statements_hold : (c : Catalog) (xs : List Stmt) → are_consistent c xs ≡ true → are_few xs ≡ true → AreStatements c xs
 statements_hold c xs h few =
-    let k = and_parts (list_all (belongs c) xs) (are_apart (key_lengths c.rels) xs) h in
+    let k = and_parts (list_all (belongs c) xs) (are_ordered_apart (key_lengths c.rels) xs) h in
     let a = apart_holds (key_lengths c.rels) xs k.1 in
     let n = and_parts (nat_le (length xs) most_statements) (nat_le (tuple_count xs) most_tuples && nat_le (world_count xs) most_worlds) few in
     let m = and_parts (nat_le (tuple_count xs) most_tuples) (nat_le (world_count xs) most_worlds) n.1 in
     record { sorted = a.sorted; belong = k.0; no_clash = a.no_clash; few_stmts = n.0; few_tuples = m.0; few_worlds = m.1 }
 
 pub consistent_passes : (c : Catalog) (xs : List Stmt) → AreStatements c xs → are_consistent c xs ≡ true
-consistent_passes c xs h = and_from (list_all (belongs c) xs) (are_apart (key_lengths c.rels) xs) h.belong (apart_passes (key_lengths c.rels) xs h.sorted h.no_clash)
+consistent_passes c xs h = and_from (list_all (belongs c) xs) (are_ordered_apart (key_lengths c.rels) xs) h.belong (apart_passes (key_lengths c.rels) xs h.sorted h.no_clash)
 
 pub few_passes : (c : Catalog) (xs : List Stmt) → AreStatements c xs → are_few xs ≡ true
 few_passes c xs h =

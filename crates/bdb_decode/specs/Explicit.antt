@@ -40,14 +40,14 @@ abbrev pub is_placed : (ℕ → ℕ) → Paths → TupleRows → ValRow → Bool
 is_placed keys worlds tuples e = is_placed_by keys (item_of worlds e.0.0) (item_of tuples e.0.3) e
 
 -- a row of a tuple at a path, if it is explicit, as a statement
-abbrev pub said_at : List ℕ → Tuple → ValRow → List Stmt
-said_at w u e = cond e.1.1 ((record { path = w; sign = e.1.0; tuple = u }) ∷ []) []
+abbrev pub said_by_row : List ℕ → Tuple → ValRow → List Stmt
+said_by_row w u e = cond e.1.1 ((record { path = w; sign = e.1.0; tuple = u }) ∷ []) []
 
 -- the same, where there are a path and a tuple
 abbrev pub said_by : Option (List ℕ) → Option Tuple → ValRow → List Stmt
 said_by None u e = []
 said_by (Some w) None e = []
-said_by (Some w) (Some u) e = said_at w u e
+said_by (Some w) (Some u) e = said_by_row w u e
 
 abbrev pub said : Paths → TupleRows → ValRow → List Stmt
 said worlds tuples e = said_by (item_of worlds e.0.0) (item_of tuples e.0.3) e

@@ -20,7 +20,7 @@ use Rattle.bdb_decode.specs.Items.{item_of}
 use Rattle.bdb_decode.specs.Many.{HaveNoStatements}
 
 -- the worlds of a list have names
-pub record HavePaths (worlds : Paths) (ns : Names) : Type 0 where
+pub record AreNamedWorlds (worlds : Paths) (ns : Names) : Type 0 where
   pub names : AreNames ns
   pub paths : (n : ℕ) → path_of ns n ≡ item_of worlds n
 
@@ -33,18 +33,18 @@ pub record HaveNumbers (t : Tables) (tuples : TupleRows) : Type 0 where
 -- where no two of the statements that explicit rows make clash at a path, the explicit rows are the statements
 abbrev pub StatedRowsAreExplicit : Type 0
 StatedRowsAreExplicit = (keys : ℕ → ℕ) (t : Tables) (worlds : Paths) (tuples : TupleRows) (ns : Names) (stmts : List Stmt) (f : ValKey → Option Mark)
-    → AreKeyLengths keys → HavePaths worlds ns → HaveNumbers t tuples → AreStated keys t worlds tuples stmts → Gives val_codec t f → IsConsistent keys stmts
+    → AreKeyLengths keys → AreNamedWorlds worlds ns → HaveNumbers t tuples → AreStated keys t worlds tuples stmts → Gives val_codec t f → IsConsistent keys stmts
     → HasExplicit keys stmts (worlds_of ns) (item_of tuples) f t
 
 -- where tables hold the rows of statements, no row of table 11 is foreign or without its place
 abbrev pub HeldRowsHavePlaces : Type 0
 HeldRowsHavePlaces = (keys : ℕ → ℕ) (stmts : List Stmt) (ns : Names) (ts : Tuples) (t : Tables) (worlds : Paths) (tuples : TupleRows)
-    → HavePaths worlds ns → ((n : ℕ) → ts.tuple n ≡ item_of tuples n) → HoldsTuples stmts ts t → HoldsRows keys stmts (path_of ns) ts.tuple t → AreMisplaced keys t worlds tuples → ⊥
+    → AreNamedWorlds worlds ns → ((n : ℕ) → ts.tuple n ≡ item_of tuples n) → HoldsTuples stmts ts t → HoldsRows keys stmts (path_of ns) ts.tuple t → AreMisplaced keys t worlds tuples → ⊥
 
 -- where tables hold the rows of statements, the explicit rows make these statements
 abbrev pub HeldRowsMakeStatements : Type 0
 HeldRowsMakeStatements = (keys : ℕ → ℕ) (stmts xs : List Stmt) (ns : Names) (ts : Tuples) (t : Tables) (worlds : Paths) (tuples : TupleRows)
-    → AreKeyLengths keys → HavePaths worlds ns → ((n : ℕ) → ts.tuple n ≡ item_of tuples n) → HasStates stmts (is_named ns) → IsConsistent keys stmts → ascending statement_cmp stmts ≡ true
+    → AreKeyLengths keys → AreNamedWorlds worlds ns → ((n : ℕ) → ts.tuple n ≡ item_of tuples n) → HasStates stmts (is_named ns) → IsConsistent keys stmts → ascending statement_cmp stmts ≡ true
     → HoldsTuples stmts ts t → HoldsRows keys stmts (path_of ns) ts.tuple t → AreStated keys t worlds tuples xs → xs ≡ stmts
 
 -- rows that have their places aren't those of tables in which a row is foreign or without its place

@@ -1,11 +1,14 @@
+-- what the headline is made of, in the order of docs/BELIEVE.md
+pub mod Opening
+-- what other public promises and laws are made of
+pub mod Laws
+-- words between crates, and for private loops and lemmas
 pub mod Explicit
 pub mod ExplicitLaws
 pub mod Items
 pub mod Judging
-pub mod Laws
 pub mod Limits
 pub mod Many
-pub mod Opening
 pub mod Parts
 pub mod SettledRows
 pub mod Settles

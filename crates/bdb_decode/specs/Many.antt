@@ -12,14 +12,14 @@ use Rattle.bdb_tables.specs.Spans.{entry_cmp}
 use Rattle.bdb_decode.specs.Explicit.{AreMisplaced, Paths, TupleRows, ValRow, is_placed, said}
 
 -- a row is one of table 11
-pub record IsThere (t : Tables) (e : ValRow) : Type 0 where
+pub record IsRowThere (t : Tables) (e : ValRow) : Type 0 where
   pub fits : IsValKey e.0
   pub found : tables.get t (place val_codec e.0) ≡ Some (mark_bytes e.1)
 
 -- these rows are some of table 11, each has its place, and the explicit ones make too many statements
 pub record HaveTooMany (keys : ℕ → ℕ) (t : Tables) (worlds : Paths) (tuples : TupleRows) : Type 0 where
   pub rows : List ValRow
-  pub there : AllByRecursion (IsThere t) rows
+  pub there : AllByRecursion (IsRowThere t) rows
   pub sorted : ascending (entry_cmp val_codec) rows ≡ true
   pub placed : list_all (is_placed keys worlds tuples) rows ≡ true
   pub many : most_statements < length (flat_map (said worlds tuples) rows)

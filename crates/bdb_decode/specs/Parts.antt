@@ -17,7 +17,7 @@ use Rattle.bdb_entries.specs.Reading.{OthersAreBare}
 use Rattle.bdb_entries.specs.Tuples.{AreTuples}
 use Rattle.bdb_names.specs.declared.named.NamedWorld.{NamedWorld}
 use Rattle.bdb_decode.specs.Explicit.{Paths, TupleRows}
-use Rattle.bdb_decode.specs.ExplicitLaws.{HavePaths}
+use Rattle.bdb_decode.specs.ExplicitLaws.{AreNamedWorlds}
 use Rattle.bdb_decode.specs.Items.{number_cmp}
 use Rattle.bdb_decode.specs.SettledRows.{TellsRows}
 
@@ -40,7 +40,7 @@ path_row x = (x.wid, x.path)
 -- these are the worlds of the states that tables hold over users, in order of their numbers
 pub record ArePaths (users : ℕ → Bool) (t : Tables) (worlds : Paths) : Type 0 where
   pub names : Names
-  pub paths : HavePaths worlds names
+  pub paths : AreNamedWorlds worlds names
   pub states : HoldsStates users names t
   pub sorted : ascending number_cmp worlds ≡ true
 

@@ -15,11 +15,11 @@ use Rattle.bdb_tables.specs.Rows.{AreKeyLengths, Tuples, HoldsTuples, HoldsRows}
 use Rattle.bdb_tables.specs.Writes.{Gives}
 use Rattle.bdb_val.specs.Reads.{AreReadUnder, world_prefix}
 use Rattle.bdb_val.specs.Settled.{HasStates}
-use Rattle.bdb_val.specs.Settling.{are_apart, row_key}
+use Rattle.bdb_val.specs.Settling.{numbers_are_apart, row_key}
 use Rattle.bdb_val.specs.declared.stored.StoredRow.{StoredRow}
 use Rattle.bdb_entries.specs.Tuples.{HasTuples}
 use Rattle.bdb_decode.specs.Explicit.{ArePlaced, Paths, TupleRows, ValRow}
-use Rattle.bdb_decode.specs.ExplicitLaws.{HavePaths}
+use Rattle.bdb_decode.specs.ExplicitLaws.{AreNamedWorlds}
 use Rattle.bdb_decode.specs.Items.{item_of}
 use Rattle.bdb_decode.specs.Settles.{settles}
 
@@ -40,15 +40,15 @@ pub record AreKeyed (keys : ℕ → ℕ) (t : Tables) : Type 0 where
 -- rows that have their places are of worlds and tuples that there are
 abbrev pub PlacedRowsAreKeyed : Type 0
 PlacedRowsAreKeyed = (keys : ℕ → ℕ) (t : Tables) (worlds : Paths) (tuples : TupleRows) (rows : List ValRow) (ns : Names) (ts : Tuples)
-    → AreKeyLengths keys → HavePaths worlds ns → Gives depth_codec t (depth_of ns) → HasTuples t ts → ((n : ℕ) → ts.tuple n ≡ item_of tuples n)
+    → AreKeyLengths keys → AreNamedWorlds worlds ns → Gives depth_codec t (depth_of ns) → HasTuples t ts → ((n : ℕ) → ts.tuple n ≡ item_of tuples n)
     → ArePlaced keys t worlds tuples rows → AreKeyed keys t
 
 -- ---- worlds, each with the number to which its suffix link leads
 
 -- rows are those of the world to which a link leads, no two of one tuple; none where it leads to none
-pub record AreLinked (t : Tables) (link : Option ℕ) (rows : List StoredRow) : Type 0 where
+pub record AreLinkedRows (t : Tables) (link : Option ℕ) (rows : List StoredRow) : Type 0 where
   pub read : MatchOption link (rows ≡ []) (λ m. AreReadUnder t (world_prefix m) rows)
-  pub apart : are_apart rows ≡ true
+  pub apart : numbers_are_apart rows ≡ true
 
 -- the rows of a world, and those of the world to which its suffix link leads, pass the test, or they do not
 pub record TellsWorld (keys : ℕ → ℕ) (t : Tables) (x : ℕ × Option ℕ) (b : Bool) : Type 0 where
@@ -70,8 +70,8 @@ pub record AreWorldsOf (ns : Names) (worlds : List (ℕ × Option ℕ)) : Type 0
 -- ---- the rows of the worlds
 
 -- the explicit rows of worlds and tuples with names are statements
-abbrev pub AreStated : (ℕ → ℕ) → List Stmt → Names → (ℕ → Option Tuple) → Tables → Type 0
-AreStated keys stmts ns tuple t = (f : ValKey → Option Mark) → Gives val_codec t f → (wid : ℕ) (w : List ℕ) (tid : ℕ) (u : Tuple)
+abbrev pub StateExplicit : (ℕ → ℕ) → List Stmt → Names → (ℕ → Option Tuple) → Tables → Type 0
+StateExplicit keys stmts ns tuple t = (f : ValKey → Option Mark) → Gives val_codec t f → (wid : ℕ) (w : List ℕ) (tid : ℕ) (u : Tuple)
     → path_of ns wid ≡ Some w → tuple tid ≡ Some u → explicit_of (f (row_key keys wid tid u)) ≡ explicit_sign stmts w u
 
 -- Statements whose states, tuples and explicit rows the tables have, with these worlds. No two of one path clash.
@@ -82,7 +82,7 @@ pub record AreCandidates (keys : ℕ → ℕ) (stmts : List Stmt) (ns : Names) (
   pub tuples : HoldsTuples stmts ts t
   pub depths : Gives depth_codec t (depth_of ns)
   pub linked : AreWorldsOf ns worlds
-  pub stated : AreStated keys stmts ns ts.tuple t
+  pub stated : StateExplicit keys stmts ns ts.tuple t
 
 -- whether the tables hold the rows of the worlds, whichever statements it is whose states, tuples and explicit rows they have
 abbrev pub TellsRows : (ℕ → ℕ) → Tables → List (ℕ × Option ℕ) → Bool → Type 0

@@ -44,12 +44,12 @@ plus_climb keys [] = true
 plus_climb keys (x ∷ xs) = (not (is_plus x) || below_plus keys x xs) && plus_climb keys xs
 
 -- the statements are in order, with no tuple twice at a path, and no two plus ones of a relation and key at a path
-abbrev pub are_apart : (ℕ → ℕ) → List Stmt → Bool
-are_apart keys xs = climbs place_cmp xs && plus_climb keys xs
+abbrev pub are_ordered_apart : (ℕ → ℕ) → List Stmt → Bool
+are_ordered_apart keys xs = climbs place_cmp xs && plus_climb keys xs
 
 -- the statements belong to a catalog, and no two clash at a path
 abbrev pub are_consistent : Catalog → List Stmt → Bool
-are_consistent c xs = list_all (belongs c) xs && are_apart (key_lengths c.rels) xs
+are_consistent c xs = list_all (belongs c) xs && are_ordered_apart (key_lengths c.rels) xs
 
 -- the statements, their tuples and their worlds are not too many
 abbrev pub are_few : List Stmt → Bool

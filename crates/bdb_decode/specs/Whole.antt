@@ -15,7 +15,7 @@ use Rattle.bdb_tables.specs.Writes.{Gives}
 use Rattle.bdb_val.specs.Middle.{HasExplicit, worlds_of}
 use Rattle.bdb_entries.specs.Tuples.{HasTuples}
 use Rattle.bdb_decode.specs.Explicit.{AreStated, Paths, TupleRows}
-use Rattle.bdb_decode.specs.ExplicitLaws.{HavePaths}
+use Rattle.bdb_decode.specs.ExplicitLaws.{AreNamedWorlds}
 use Rattle.bdb_decode.specs.Items.{item_of, number_cmp}
 use Rattle.bdb_decode.specs.Many.{HaveNoStatements}
 use Rattle.bdb_decode.specs.Stated.{all_stated, all_states}
@@ -44,13 +44,13 @@ HaveNoBaseStatements t c worlds tuples = HaveNoStatements (key_lengths c.rels) t
 -- a valid base that tables store under these names has whole statements
 abbrev pub HeldBasesAreWhole : Type 0
 HeldBasesAreWhole = (b : Contents) (ns : Names) (ts : Tuples) (t : Tables) (worlds : Paths) (tuples : TupleRows)
-    → StoredAs ns ts t b → IsValid b.catalog b.stmts → HavePaths worlds ns → ((n : ℕ) → ts.tuple n ≡ item_of tuples n)
+    → StoredAs ns ts t b → IsValid b.catalog b.stmts → AreNamedWorlds worlds ns → ((n : ℕ) → ts.tuple n ≡ item_of tuples n)
     → ascending number_cmp worlds ≡ true → ascending number_cmp tuples ≡ true → HaveNoBaseStatements t b.catalog worlds tuples → ⊥
 
 -- the statements that the explicit rows make are those of the base
 abbrev pub HeldBasesAreStated : Type 0
 HeldBasesAreStated = (b : Contents) (ns : Names) (ts : Tuples) (t : Tables) (worlds : Paths) (tuples : TupleRows) (stmts : List Stmt)
-    → StoredAs ns ts t b → IsValid b.catalog b.stmts → HavePaths worlds ns → ((n : ℕ) → ts.tuple n ≡ item_of tuples n)
+    → StoredAs ns ts t b → IsValid b.catalog b.stmts → AreNamedWorlds worlds ns → ((n : ℕ) → ts.tuple n ≡ item_of tuples n)
     → AreStated (key_lengths b.catalog.rels) t worlds tuples stmts → stmts ≡ b.stmts
 
 -- tables hold the tuples of statements and worlds that are their states, and the explicit rows are the statements
@@ -63,5 +63,5 @@ pub record AreHeldExplicit (keys : ℕ → ℕ) (stmts : List Stmt) (ns : Names)
 -- left is that the rows are settled.
 abbrev pub BaseStatementsAreHeld : Type 0
 BaseStatementsAreHeld = (t : Tables) (c : Catalog) (worlds : Paths) (tuples : TupleRows) (stmts : List Stmt) (ns : Names) (ts : Tuples) (f : ValKey → Option Mark)
-    → IsCatalog c → HavePaths worlds ns → HasTuples t ts → ((n : ℕ) → ts.tuple n ≡ item_of tuples n) → Gives val_codec t f
+    → IsCatalog c → AreNamedWorlds worlds ns → HasTuples t ts → ((n : ℕ) → ts.tuple n ≡ item_of tuples n) → Gives val_codec t f
     → AreBaseStatements t c worlds tuples stmts → AreHeldExplicit (key_lengths c.rels) stmts ns ts f t

@@ -5,8 +5,8 @@ ghost use Rattle.bdb_keep.specs.Calls.{IsRead};
 ghost use Rattle.bdb_tables.specs.Grammar.{InGrammar};
 ghost use Rattle.bdb_tables.specs.Reading.{OnlyReads};
 ghost use Rattle.bdb_val.specs.Reads.{AreReadUnder, world_prefix};
-ghost use Rattle.bdb_val.specs.Settling.{are_apart};
-ghost use Rattle.bdb_decode.specs.SettledRows.{AreKeyed, AreLinked, TellsRows, TellsWorld, TellsWorlds};
+ghost use Rattle.bdb_val.specs.Settling.{numbers_are_apart};
+ghost use Rattle.bdb_decode.specs.SettledRows.{AreKeyed, AreLinkedRows, TellsRows, TellsWorld, TellsWorlds};
 ghost use Rattle.bdb_decode.specs.Settles.{is_explicit, is_inherited, settles};
 
 use crate::settles::are_settled;
@@ -82,11 +82,11 @@ fn is_world_settled<K: Keeper>(
 ) -> Result<bool, TabError>
     requires grammar { InGrammar (K.seen keeper.old).kept }
     requires keyed { AreKeyed (key_lengths catalog.now.rels) (K.seen keeper.old).kept }
-    requires linked { AreLinked (K.seen keeper.old).kept linked.old.link linked.old.rows.items }
+    requires linked { AreLinkedRows (K.seen keeper.old).kept linked.old.link linked.old.rows.items }
     ensures told { IfOk result
         (TellsWorld (key_lengths catalog.now.rels) (K.seen keeper.old).kept world.now) }
     ensures linked { OnOk result
-        (AreLinked (K.seen keeper.old).kept linked.new.link linked.new.rows.items) }
+        (AreLinkedRows (K.seen keeper.old).kept linked.new.link linked.new.rows.items) }
     ensures read { IsRead (K.seen keeper.old) (K.seen keeper.new) result TabError.Fault }
 {
     let own = match read_rows(alloc, keeper, catalog, world.0) {
@@ -116,9 +116,9 @@ fn follow<K: Keeper>(
 ) -> Result<(), TabError>
     requires grammar { InGrammar (K.seen keeper.old).kept }
     requires keyed { AreKeyed (key_lengths catalog.now.rels) (K.seen keeper.old).kept }
-    requires linked { AreLinked (K.seen keeper.old).kept linked.old.link linked.old.rows.items }
+    requires linked { AreLinkedRows (K.seen keeper.old).kept linked.old.link linked.old.rows.items }
     ensures link { OnOk result (linked.new.link ≡ link) }
-    ensures linked { OnOk result (AreLinked (K.seen keeper.old).kept link linked.new.rows.items) }
+    ensures linked { OnOk result (AreLinkedRows (K.seen keeper.old).kept link linked.new.rows.items) }
     ensures reading { OnlyReads (K.seen keeper.old) (K.seen keeper.new) result TabError.Fault }
 {
     if is_same_link(linked.link, link) {
@@ -154,7 +154,7 @@ fn read_linked<K: Keeper>(
 ) -> Result<Vec<StoredRow>, TabError>
     requires grammar { InGrammar (K.seen keeper.old).kept }
     requires keyed { AreKeyed (key_lengths catalog.now.rels) (K.seen keeper.old).kept }
-    ensures rows { IfOk result (λ rows. AreLinked (K.seen keeper.old).kept link rows.items) }
+    ensures rows { IfOk result (λ rows. AreLinkedRows (K.seen keeper.old).kept link rows.items) }
     ensures reading { OnlyReads (K.seen keeper.old) (K.seen keeper.new) result TabError.Fault }
 {
     match link {
@@ -177,7 +177,7 @@ fn read_rows<K: Keeper>(
     requires keyed { AreKeyed (key_lengths catalog.now.rels) (K.seen keeper.old).kept }
     ensures rows { IfOk result (λ rows. AreReadUnder (K.seen keeper.old).kept (world_prefix wid)
         rows.items) }
-    ensures apart { IfOk result (λ rows. are_apart rows.items ≡ true) }
+    ensures apart { IfOk result (λ rows. numbers_are_apart rows.items ≡ true) }
     ensures read { IsRead (K.seen keeper.old) (K.seen keeper.new) result TabError.Fault }
 {
     match read_world(alloc, keeper, wid) {
@@ -193,7 +193,7 @@ fn settles(
     own: Vec<StoredRow>,
     from: &[StoredRow],
 ) -> Result<bool, AllocError>
-    requires from { are_apart from.now ≡ true }
+    requires from { numbers_are_apart from.now ≡ true }
     ensures { IfOk result
         (λ settled. settled ≡ settles (key_lengths catalog.now.rels) own.items from.now) }
 {

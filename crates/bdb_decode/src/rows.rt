@@ -10,7 +10,7 @@ ghost use Rattle.bdb_base.specs.SortedSet.{ascending};
 ghost use Rattle.bdb_keep.specs.Calls.{IsRead};
 ghost use Rattle.bdb_base.specs.Same.{same_values};
 ghost use Rattle.bdb_val.specs.Reads.{is_of_group};
-ghost use Rattle.bdb_decode.specs.Explicit.{AreSaid, AreStated, is_placed, said, said_at};
+ghost use Rattle.bdb_decode.specs.Explicit.{AreSaid, AreStated, is_placed, said, said_by_row};
 ghost use Rattle.bdb_decode.specs.Items.{number_cmp};
 ghost use Rattle.bdb_decode.specs.Many.{HaveNoStatements};
 
@@ -164,7 +164,7 @@ fn push_placed(
         row.now.0.1 row.now.0.2 tuple.now) }
     ensures said { IfOk result
         (λ placed. placed ≡ true
-        → stmts.new.items ≡ stmts.old.items ++ said_at path.now tuple.now row.now) }
+        → stmts.new.items ≡ stmts.old.items ++ said_by_row path.now tuple.now row.now) }
 {
     if !is_of_group(catalog, tuple, row) {
         return Ok(false);

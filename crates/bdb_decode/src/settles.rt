@@ -3,7 +3,7 @@ ghost use Rattle.std.specs.Prelude.{◌≡◌, ◌&&◌, true, is_some};
 ghost use Rattle.std.specs.List.{list_all};
 ghost use Rattle.bdb_base.specs.Bases.{key_lengths};
 ghost use Rattle.bdb_base.specs.Clash.{clash};
-ghost use Rattle.bdb_val.specs.Settling.{are_apart, barred_by, mark_in};
+ghost use Rattle.bdb_val.specs.Settling.{barred_by, mark_in, numbers_are_apart};
 ghost use Rattle.bdb_decode.specs.Settles.{are_settled, has_sign, is_fitting, is_passed};
 
 use crate::keys::key_length_in;
@@ -19,7 +19,7 @@ pub fn are_settled(
     inherited: &[StoredRow],
     from: &[StoredRow],
 ) -> bool
-    requires from { are_apart from.now ≡ true }
+    requires from { numbers_are_apart from.now ≡ true }
     ensures { result ≡ are_settled (key_lengths catalog.now.rels)
         stated.now inherited.now from.now }
 {
@@ -33,7 +33,7 @@ fn all_fit(
     inherited: &[StoredRow],
     from: &[StoredRow],
 ) -> bool
-    requires { are_apart from.now ≡ true }
+    requires { numbers_are_apart from.now ≡ true }
     ensures { result ≡ list_all (is_fitting (key_lengths catalog.now.rels) stated.now from.now)
         inherited.now }
 {
@@ -54,7 +54,7 @@ fn is_fitting(
     row: &StoredRow,
     at: &mut usize,
 ) -> bool
-    requires { are_apart from.now ≡ true }
+    requires { numbers_are_apart from.now ≡ true }
     ensures { result ≡ is_fitting (key_lengths catalog.now.rels) stated.now from.now row.now }
 {
     if is_barred(catalog, stated, row) {
@@ -136,7 +136,7 @@ fn bars(n: u32, other: &StoredRow, row: &StoredRow) -> bool
 
 // The mark of a tuple's row. The search begins at a place, and leaves that of the row there.
 fn mark_from(rows: &[StoredRow], tid: u32, at: &mut usize) -> Option<(Sign, bool)>
-    requires { are_apart rows.now ≡ true }
+    requires { numbers_are_apart rows.now ≡ true }
     ensures { result ≡ mark_in rows.now tid }
 {
     for place in *at..rows.len() {

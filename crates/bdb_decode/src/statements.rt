@@ -4,7 +4,7 @@ ghost use Rattle.std.specs.Bool.{MatchBool};
 ghost use Rattle.std.specs.Ordering.{is_lt};
 ghost use Rattle.bdb_base.specs.Bases.{AreStatements, key_lengths, tuple_count, world_count};
 ghost use Rattle.bdb_base.specs.Limits.{most_tuples, most_worlds};
-ghost use Rattle.bdb_decode.specs.Statements.{are_apart, are_consistent, are_few, below_next, below_plus, climbs, group_cmp, is_plus, place_cmp, plus_climb};
+ghost use Rattle.bdb_decode.specs.Statements.{are_consistent, are_few, are_ordered_apart, below_next, below_plus, climbs, group_cmp, is_plus, place_cmp, plus_climb};
 
 use crate::keys::key_in;
 use bdb_base::limits::{MOST_STATEMENTS, MOST_TUPLES, MOST_WORLDS};
@@ -38,7 +38,7 @@ fn are_consistent(catalog: &Catalog, stmts: &[Stmt]) -> bool
 
 // Whether statements are in order, and no two clash at a path.
 fn are_apart(catalog: &Catalog, stmts: &[Stmt]) -> bool
-    ensures { result ≡ are_apart (key_lengths catalog.now.rels) stmts.now }
+    ensures { result ≡ are_ordered_apart (key_lengths catalog.now.rels) stmts.now }
 {
     climb(stmts) && plus_climb(catalog, stmts)
 }

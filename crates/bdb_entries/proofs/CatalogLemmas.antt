@@ -16,7 +16,7 @@ use Rattle.bdb_tables.specs.InUseLaws.{slot_rows_are_one, rel_rows_are_one}
 use Rattle.bdb_tables.specs.Stored.{slot_of}
 use Rattle.bdb_tables.proofs.CatalogLemmas.{same_by_place}
 use Rattle.bdb_tables.proofs.WriteLemmas.{gives_one}
-use Rattle.bdb_entries.specs.Catalog.{HasCatalog, HasRelations, HasUsers, TellsRelations, TellsUsers, names_differ, are_relations, are_users, has_plain_name, is_called, is_catalog, slots_differ}
+use Rattle.bdb_entries.specs.Catalog.{HasCatalog, HasRelations, HasUserPlaces, TellsRelations, TellsUsers, names_differ, are_relations, are_users, has_plain_name, is_called, is_catalog, slots_differ}
 
 -- a test of the items of a list, and of what they are taken to
 any_named : {X N : Type 0} (f : X → N) (p : N → Bool) (xs : List X) → list_any (λ x. p (f x)) xs ≡ list_any p (map f xs)
@@ -59,7 +59,7 @@ catalog_passes c h =
 
 -- ---- one list of users, and one of relations
 
-one_users : (t : Tables) (xs ys : List UserSlot) → HasUsers t xs → HasUsers t ys → xs ≡ ys
+one_users : (t : Tables) (xs ys : List UserSlot) → HasUserPlaces t xs → HasUserPlaces t ys → xs ≡ ys
 one_users t xs ys h k = same_by_place xs ys (λ n.
     elim (cases_lt (suc n) (2 ^ 32)) as (λ _. slice_get xs n ≡ slice_get ys n) [
       | inl num ↦ gives_one user_codec slot_rows_are_one t (slot_of xs) (slot_of ys) h.gives k.gives (suc n) num
@@ -79,7 +79,7 @@ one_relations t xs ys h k = same_by_place xs ys (λ n.
           slice_get_past xs n (omega (arith, past, few)) ∙ sym (slice_get_past ys n (omega (arith, past, few2)))
     ])
 
-users_of : (t : Tables) (c : Catalog) → HasCatalog t c → HasUsers t c.users
+users_of : (t : Tables) (c : Catalog) → HasCatalog t c → HasUserPlaces t c.users
 users_of t c h = let few : length c.users ≤ most_users = leb-true (length c.users) most_users h.valid.few_users in record { gives = h.users; sized = omega (arith, few) }
 
 relations_of : (t : Tables) (c : Catalog) → HasCatalog t c → HasRelations t c.rels
@@ -93,7 +93,7 @@ no_catalog_users t found e h c has = subst (TellsUsers t) e h c.users (users_of 
 pub no_catalog_relations : (t : Tables) (found : Option (List RelDef)) → found ≡ None → TellsRelations t found → (c : Catalog) → HasCatalog t c → ⊥
 no_catalog_relations t found e h c has = subst (TellsRelations t) e h c.rels (relations_of t c has)
 
-pub no_catalog : (t : Tables) (users : List UserSlot) (rels : List RelDef) → HasUsers t users → HasRelations t rels → is_catalog (record { rels = rels; users = users }) ≡ false
+pub no_catalog : (t : Tables) (users : List UserSlot) (rels : List RelDef) → HasUserPlaces t users → HasRelations t rels → is_catalog (record { rels = rels; users = users }) ≡ false
     → (c : Catalog) → HasCatalog t c → ⊥
 no_catalog t users rels h k differ c has =
     let u : c.users ≡ users = one_users t c.users users (users_of t c has) h in

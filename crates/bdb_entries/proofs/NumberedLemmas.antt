@@ -23,7 +23,7 @@ use Rattle.bdb_tables.specs.Spans.{AreUnder, IsUnder, entry_bytes, entry_cmp}
 use Rattle.bdb_tables.specs.Stored.{slot_of}
 use Rattle.bdb_tables.specs.Writes.{Gives}
 use Rattle.bdb_tables.proofs.WriteLemmas.{gives_same}
-use Rattle.bdb_entries.specs.Catalog.{HasRelations, HasUsers, TellsRelations, TellsUsers}
+use Rattle.bdb_entries.specs.Catalog.{HasRelations, HasUserPlaces, TellsRelations, TellsUsers}
 use Rattle.bdb_entries.specs.Listed.{Lists}
 use Rattle.bdb_entries.specs.Numbered.{are_numbered, item_at, numbered}
 use Rattle.bdb_entries.proofs.ListedLemmas.{gives_under, under_gives, under_is_one}
@@ -161,7 +161,7 @@ module _ {Row : Type 0} (tab : ℕ) (rows : Rows Row) where
 
 -- ---- users and relations
 
-users_given : (t : Tables) (es : List (ℕ × UserSlot)) (xs : List UserSlot) → AreUnder user_codec t [] es → es ≡ numbered 1 xs → HasUsers t xs
+users_given : (t : Tables) (es : List (ℕ × UserSlot)) (xs : List UserSlot) → AreUnder user_codec t [] es → es ≡ numbered 1 xs → HasUserPlaces t xs
 users_given t es xs h e =
     let under = subst (AreUnder user_codec t []) e h in
     let few = numbered_sized 2 slot_rows 1 xs (omega arith) under.each in
@@ -170,7 +170,7 @@ users_given t es xs h e =
       sized = omega (arith, few);
     }
 
-no_users : (t : Tables) (es : List (ℕ × UserSlot)) → AreUnder user_codec t [] es → are_numbered 1 es ≡ false → (xs : List UserSlot) → HasUsers t xs → ⊥
+no_users : (t : Tables) (es : List (ℕ × UserSlot)) → AreUnder user_codec t [] es → are_numbered 1 es ≡ false → (xs : List UserSlot) → HasUserPlaces t xs → ⊥
 no_users t es under differ xs h =
     let few = h.sized in
     false≢true (sym differ ∙ given_numbered 2 slot_rows slot_rows_are_one 1 xs t es (omega (arith, few)) (gives_same user_codec t (slot_of xs) (item_at 1 xs) (λ k fits. sym (item_of_place xs k)) h.gives) under)

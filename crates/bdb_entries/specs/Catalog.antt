@@ -14,7 +14,7 @@ use Rattle.bdb_tables.specs.Stored.{slot_of}
 use Rattle.bdb_tables.specs.Writes.{Gives}
 
 -- the places of users of tables are these, whose numbers are of four bytes
-pub record HasUsers (t : Tables) (users : List UserSlot) : Type 0 where
+pub record HasUserPlaces (t : Tables) (users : List UserSlot) : Type 0 where
   pub gives : Gives user_codec t (slot_of users)
   pub sized : length users + 1 ≤ 2 ^ 32
 
@@ -25,7 +25,7 @@ pub record HasRelations (t : Tables) (rels : List RelDef) : Type 0 where
 
 -- the places of users of tables; none where no list is theirs
 abbrev pub TellsUsers : Tables → Option (List UserSlot) → Type 0
-TellsUsers t found = MatchOption found ((users : List UserSlot) → HasUsers t users → ⊥) (HasUsers t)
+TellsUsers t found = MatchOption found ((users : List UserSlot) → HasUserPlaces t users → ⊥) (HasUserPlaces t)
 
 -- the relations of tables; none where no list is theirs
 abbrev pub TellsRelations : Tables → Option (List RelDef) → Type 0

@@ -6,7 +6,7 @@ use Rattle.bdb_multi.specs.Sessions.{sessions}
 use Rattle.bdb_multi.specs.declared.kinds.Event.{Event}
 use Rattle.bdb_events.specs.declared.read.Read.{Read}
 use Rattle.bdb_events.specs.Pieces.{Numbered, numbered, line_of, read_line, read_form, read_behind}
-use Rattle.bdb_events.specs.Forms.{HasForm, IsRead, PiecesAreRead, NamesSession}
+use Rattle.bdb_events.specs.Forms.{HasForm, IsReadAs, PiecesAreRead, NamesSession}
 use Rattle.bdb_events.proofs.GapLemmas.{nothing_is_gaps}
 use Rattle.bdb_events.proofs.FormLemmas.{forms_are_read}
 
@@ -33,34 +33,34 @@ some_read : (bytes : List ℕ) (f : Numbered) → HasForm bytes f → read_behin
 some_read bytes f h = read_some (behind_gaps bytes) f ((forms_are_read bytes f).1 h)
 
 -- what is read is what the piece is
-is_line : (bytes : List ℕ) (f : Numbered) → HasForm bytes f → IsRead bytes (read_line f (behind_gaps f.line))
+is_line : (bytes : List ℕ) (f : Numbered) → HasForm bytes f → IsReadAs bytes (read_line f (behind_gaps f.line))
 is_line bytes f h = elim (cases_bytes (behind_gaps f.line)) [
   | inl none ↦
       let gap : IsLastGap f.line = (nothing_is_gaps f.line).0 none in
-      subst (λ rest. IsRead bytes (read_line f rest)) (sym none) (f, h, gap, refl)
+      subst (λ rest. IsReadAs bytes (read_line f rest)) (sym none) (f, h, gap, refl)
   | inr some ↦
       let not_gap : IsLastGap f.line → ⊥ = λ gap. no_nil some.0 some.1 (behind_gaps f.line) some.2 ((nothing_is_gaps f.line).1 gap) in
-      subst (λ rest. IsRead bytes (read_line f rest)) (sym some.2) (f, h, not_gap, refl)
+      subst (λ rest. IsReadAs bytes (read_line f rest)) (sym some.2) (f, h, not_gap, refl)
 ]
 
-is_form : (bytes : List ℕ) (b : ℕ) (rest : List ℕ) → behind_gaps bytes ≡ b ∷ rest → IsRead bytes (read_form (numbered (behind_gaps bytes)))
+is_form : (bytes : List ℕ) (b : ℕ) (rest : List ℕ) → behind_gaps bytes ≡ b ∷ rest → IsReadAs bytes (read_form (numbered (behind_gaps bytes)))
 is_form bytes b rest left = elim (cases_option (numbered (behind_gaps bytes))) [
   | inl none ↦
       let not_gap : IsLastGap bytes → ⊥ = λ gap. no_nil b rest (behind_gaps bytes) left ((nothing_is_gaps bytes).1 gap) in
       let not_form : (f : Numbered) → HasForm bytes f → ⊥ = λ f h. no_form (numbered (behind_gaps bytes)) f none ((forms_are_read bytes f).1 h) in
-      subst (λ o. IsRead bytes (read_form o)) (sym none) (not_gap, not_form)
-  | inr some ↦ subst (λ o. IsRead bytes (read_form o)) (sym some.1) (is_line bytes some.0 ((forms_are_read bytes some.0).0 some.1))
+      subst (λ o. IsReadAs bytes (read_form o)) (sym none) (not_gap, not_form)
+  | inr some ↦ subst (λ o. IsReadAs bytes (read_form o)) (sym some.1) (is_line bytes some.0 ((forms_are_read bytes some.0).0 some.1))
 ]
 
-is_piece : (bytes : List ℕ) → IsRead bytes (read_behind (behind_gaps bytes))
+is_piece : (bytes : List ℕ) → IsReadAs bytes (read_behind (behind_gaps bytes))
 is_piece bytes = elim (cases_bytes (behind_gaps bytes)) [
   | inl none ↦
       let gap : IsLastGap bytes = (nothing_is_gaps bytes).0 none in
-      subst (λ rest. IsRead bytes (read_behind rest)) (sym none) gap
+      subst (λ rest. IsReadAs bytes (read_behind rest)) (sym none) gap
   | inr some ↦
-      let form : IsRead bytes (read_form (numbered (some.0 ∷ some.1))) =
-      subst (λ rest. IsRead bytes (read_form (numbered rest))) some.2 (is_form bytes some.0 some.1 some.2) in
-      subst (λ rest. IsRead bytes (read_behind rest)) (sym some.2) form
+      let form : IsReadAs bytes (read_form (numbered (some.0 ∷ some.1))) =
+      subst (λ rest. IsReadAs bytes (read_form (numbered rest))) some.2 (is_form bytes some.0 some.1 some.2) in
+      subst (λ rest. IsReadAs bytes (read_behind rest)) (sym some.2) form
 ]
 
 -- and nothing else
@@ -82,7 +82,7 @@ event_read f some = elim (cases_bytes (behind_gaps f.line)) [
   | inr e ↦ ap (read_line f) e.2
 ]
 
-only_read : (bytes : List ℕ) (r : Read) → IsRead bytes r → read_behind (behind_gaps bytes) ≡ r
+only_read : (bytes : List ℕ) (r : Read) → IsReadAs bytes r → read_behind (behind_gaps bytes) ≡ r
 only_read bytes Read.Nothing h = ap read_behind ((nothing_is_gaps bytes).1 h)
 only_read bytes Read.Long h = absurd h
 only_read bytes Read.NoSession h = reads_nothing bytes (λ e. h.0 ((nothing_is_gaps bytes).0 e)) (form_or_none bytes h.1)
@@ -91,10 +91,10 @@ only_read bytes (Read.NoLine n) h =
 only_read bytes (Read.Event e) h = some_read bytes h.0 h.1 ∙ (event_read h.0 h.2 ∙ ap Read.Event (sym h.3))
 
 pub pieces_are_read : PiecesAreRead
-pieces_are_read bytes r = (λ e. subst (IsRead bytes) e (is_piece bytes), only_read bytes r)
+pieces_are_read bytes r = (λ e. subst (IsReadAs bytes) e (is_piece bytes), only_read bytes r)
 
 -- a session that there is
-known_by : (bytes : List ℕ) (r : Read) → IsRead bytes r → NamesSession r
+known_by : (bytes : List ℕ) (r : Read) → IsReadAs bytes r → NamesSession r
 known_by bytes Read.Nothing h = tt
 known_by bytes Read.Long h = tt
 known_by bytes Read.NoSession h = tt
@@ -102,4 +102,4 @@ known_by bytes (Read.NoLine n) h = subst (λ m. m < sessions) (sym h.3) h.1.know
 known_by bytes (Read.Event e) h = subst (λ x. x.session < sessions) (sym h.3) h.1.known
 
 pub names_session : (bytes : List ℕ) (r : Read) → r ≡ read_behind (behind_gaps bytes) → NamesSession r
-names_session bytes r e = known_by bytes r (subst (IsRead bytes) (sym e) (is_piece bytes))
+names_session bytes r e = known_by bytes r (subst (IsReadAs bytes) (sym e) (is_piece bytes))

@@ -47,16 +47,16 @@ NothingIsGaps = (bytes : List ℕ) → (behind_gaps bytes ≡ []) ↔ IsLastGap 
 
 -- what a piece of these bytes is: blanks and comments alone; neither these nor of the form; of the form, with a line of blanks
 -- and comments alone; of the form, with another line
-abbrev pub IsRead : List ℕ → Read → Type 0
-IsRead bytes Read.Nothing = IsLastGap bytes
-IsRead bytes Read.Long = ⊥
-IsRead bytes Read.NoSession = (IsLastGap bytes → ⊥) × ((f : Numbered) → HasForm bytes f → ⊥)
-IsRead bytes (Read.NoLine n) = (f : Numbered) × HasForm bytes f × IsLastGap f.line × (n ≡ f.session)
-IsRead bytes (Read.Event e) = (f : Numbered) × HasForm bytes f × (IsLastGap f.line → ⊥) × (e ≡ record { session = f.session; line = line_of f.line })
+abbrev pub IsReadAs : List ℕ → Read → Type 0
+IsReadAs bytes Read.Nothing = IsLastGap bytes
+IsReadAs bytes Read.Long = ⊥
+IsReadAs bytes Read.NoSession = (IsLastGap bytes → ⊥) × ((f : Numbered) → HasForm bytes f → ⊥)
+IsReadAs bytes (Read.NoLine n) = (f : Numbered) × HasForm bytes f × IsLastGap f.line × (n ≡ f.session)
+IsReadAs bytes (Read.Event e) = (f : Numbered) × HasForm bytes f × (IsLastGap f.line → ⊥) × (e ≡ record { session = f.session; line = line_of f.line })
 
 -- what is read of a piece is what it is
 abbrev pub PiecesAreRead : Type 0
-PiecesAreRead = (bytes : List ℕ) (r : Read) → (read_of (Piece.Cmd bytes) ≡ r) ↔ IsRead bytes r
+PiecesAreRead = (bytes : List ℕ) (r : Read) → (read_of (Piece.Cmd bytes) ≡ r) ↔ IsReadAs bytes r
 
 -- what is read names a session that there is
 abbrev pub NamesSession : Read → Type 0

@@ -14,7 +14,7 @@ use Rattle.bdb_base.specs.declared.tuple.Tuple.{Tuple}
 use Rattle.bdb_base.proofs.OptionLemmas.{none_is_some, same_some}
 use Rattle.bdb_keep.specs.Tables.{Tables}
 use Rattle.bdb_key.specs.Bytes.{num_bytes, text_bytes}
-use Rattle.bdb_key.specs.Grammar.{IsNum, ArePlain, IsWhole, HasPlainText}
+use Rattle.bdb_key.specs.Grammar.{IsNum, ArePlain, HasEightBytes, HasPlainText}
 use Rattle.bdb_key.specs.Rows.{IsTupleRow}
 use Rattle.bdb_queries.specs.Slots.{user_tuple}
 use Rattle.bdb_tables.specs.Codec.{HasAt, HasRow}
@@ -77,12 +77,12 @@ pub written_text : (v : Value) → is_written v ≡ true → HasPlainText v
 written_text (Int m) e = tt
 written_text (Text s) e = e
 
-plain_values : (vs : List Value) → AllByRecursion IsWhole vs → AllByRecursion HasPlainText vs → ArePlain vs
+plain_values : (vs : List Value) → AllByRecursion HasEightBytes vs → AllByRecursion HasPlainText vs → ArePlain vs
 plain_values [] w h = tt
 plain_values (Int m ∷ vs) w h = (w.0, plain_values vs w.1 h.1)
 plain_values (Text s ∷ vs) w h = (h.0, plain_values vs w.1 h.1)
 
-pub tuple_row : (u : Tuple) → 0 < length u.vals → IsNum u.rel → AllByRecursion IsWhole u.vals → list_all is_written u.vals ≡ true → IsTupleRow u
+pub tuple_row : (u : Tuple) → 0 < length u.vals → IsNum u.rel → AllByRecursion HasEightBytes u.vals → list_all is_written u.vals ≡ true → IsTupleRow u
 tuple_row u some rel whole written = record { rel = rel; some = some; plain = plain_values u.vals whole (written_texts u.vals written) }
 
 pub no_number : (t : Tables) (u : Tuple) → list_all is_written u.vals ≡ false → IsNumberOf t u None

@@ -1,10 +1,12 @@
-pub mod Spelled
+-- what other public promises and laws are made of
 pub mod Seen
-pub mod Readable
+pub mod Spelled
+-- words between crates, and for private loops and lemmas
+pub mod Based
+pub mod Coming
 pub mod Keys
 pub mod LookUps
-pub mod Memos
 pub mod Looks
-pub mod Coming
+pub mod Memos
+pub mod Readable
 pub mod Rows
-pub mod Based

@@ -1,2 +1,4 @@
+-- what the headline is made of, in the order of docs/BELIEVE.md
 pub mod Respelled
+-- what other public promises and laws are made of
 pub mod Laws

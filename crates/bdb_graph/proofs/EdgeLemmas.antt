@@ -25,7 +25,7 @@ use Rattle.bdb_names.proofs.NameLemmas.{deep_number, edge_at, edge_at_none, edge
 use Rattle.bdb_entries.proofs.ReadLemmas.{past}
 use Rattle.bdb_entries.proofs.TupleLemmas.{holding}
 use Rattle.bdb_graph.specs.Naming.{names_of, path_in}
-use Rattle.bdb_graph.specs.States.{AllKeysPass, AreIndexed, HasEdgeFor, HasEdges, IsWorldOf, is_edge_key, is_right, is_world, target_of}
+use Rattle.bdb_graph.specs.States.{AllKeysPass, AreIndexed, HasEdgeFor, HasEdges, IsAmongWorlds, is_edge_key, is_right, is_world, target_of}
 use Rattle.bdb_names.specs.declared.named.NamedWorld.{NamedWorld}
 use Rattle.bdb_graph.proofs.FindingLemmas.{all_by_place, each_at, member_is, world_at, world_fits}
 use Rattle.bdb_graph.proofs.LinkLemmas.{number_fits}
@@ -71,7 +71,7 @@ pub edge_leads : (users : ℕ → Bool) (ns : Names) (i : ℕ) (w longer : List 
 edge_leads users ns i w longer found n b user apart is more told =
     told ∙ ap (λ v. leads_to (target_of ns v) n) more ∙ ap (λ o. leads_to o n) (sym (edge_is users ns i w user apart)) ∙ ap (λ o. is_right o (edge_from users ns i w)) (sym is)
 
-pub edge_told : (t : Tables) (users : ℕ → Bool) (ws : List NamedWorld) → AreNames (names_of ws) → (x : NamedWorld) (i : ℕ) → IsWorldOf ws x → (found : Option ℕ) (b : Bool) → HasAt edge_codec t (x.wid, i) found
+pub edge_told : (t : Tables) (users : ℕ → Bool) (ws : List NamedWorld) → AreNames (names_of ws) → (x : NamedWorld) (i : ℕ) → IsAmongWorlds ws x → (found : Option ℕ) (b : Bool) → HasAt edge_codec t (x.wid, i) found
     → b ≡ is_right found (edge_from users (names_of ws) i x.path) → MatchBool b (HasEdgeFor t users ws x i) (HasEdgeFor t users ws x i → ⊥)
 edge_told t users ws a x i is found b h told =
     row_told edge_codec number_rows_are_one t (x.wid, i) (edge_of users (names_of ws)) found (edge_from users (names_of ws) i x.path) b h (edge_at users (names_of ws) x.wid i x.path is)

@@ -19,7 +19,7 @@ use Rattle.bdb_paths.proofs.SuffixLemmas.{deepest_same}
 use Rattle.bdb_tables.specs.Names.{AreNames, is_named, leads_to}
 use Rattle.bdb_names.proofs.NameLemmas.{deep_number}
 use Rattle.bdb_graph.specs.Naming.{names_of, number_in, path_in}
-use Rattle.bdb_graph.specs.States.{AreIndexed, ArePathsOf, IsWorldOf, is_world, number_of_world, target_of}
+use Rattle.bdb_graph.specs.States.{AreIndexed, ArePathsOf, IsAmongWorlds, is_world, number_of_world, target_of}
 use Rattle.bdb_names.specs.declared.named.NamedWorld.{NamedWorld}
 use Rattle.bdb_graph.proofs.NumberLemmas.{all_at, lt_differs}
 
@@ -54,7 +54,7 @@ path_found (y ∷ ws) (suc at) n x a e is =
     cond-false (nat_eq n y.wid) (Some y.path) (path_in ws n) (lt_differs y.wid n less) ∙ path_found ws at n x k.1 e is
 
 -- the world at a place is one of the worlds
-pub world_at : (ws : List NamedWorld) (k : ℕ) (x : NamedWorld) → ascending nat_cmp (map number_of_world ws) ≡ true → k < length ws → x ≡ get_or ws k x → IsWorldOf ws x
+pub world_at : (ws : List NamedWorld) (k : ℕ) (x : NamedWorld) → ascending nat_cmp (map number_of_world ws) ≡ true → k < length ws → x ≡ get_or ws k x → IsAmongWorlds ws x
 world_at ws k x a l is = path_found ws k x.wid x a (number_at ws k x l is) is
 
 -- a number is that of a world where it has a path
@@ -85,7 +85,7 @@ path_all p (x ∷ ws) h n w e = by (nat_eq n x.wid) refl (and_parts (p x.path) (
     by true s q later = ap p (same_some w x.path (sym e ∙ cond-true (nat_eq n x.wid) (Some x.path) (path_in ws n) s)) ∙ q.0
     by false s q later = later q.1 (sym (cond-false (nat_eq n x.wid) (Some x.path) (path_in ws n) s) ∙ e)
 
-pub world_fits : (ws : List NamedWorld) → AreNames (names_of ws) → (x : NamedWorld) → IsWorldOf ws x → IsNum x.wid
+pub world_fits : (ws : List NamedWorld) → AreNames (names_of ws) → (x : NamedWorld) → IsAmongWorlds ws x → IsNum x.wid
 world_fits ws a x is = a.sized x.path x.wid (a.named x.wid x.path is)
 
 -- ---- by path

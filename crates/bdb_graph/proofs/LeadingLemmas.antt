@@ -21,7 +21,7 @@ use Rattle.bdb_names.proofs.NameLemmas.{path_is_named, edge_at, edge_is}
 use Rattle.bdb_names.proofs.NamedLemmas.{user_of_end}
 use Rattle.bdb_entries.proofs.ReadLemmas.{past}
 use Rattle.bdb_entries.proofs.TupleLemmas.{holding}
-use Rattle.bdb_graph.specs.Leading.{HasEdge, IsLed}
+use Rattle.bdb_graph.specs.Leading.{HasEdge, IsLedByEdge}
 use Rattle.bdb_graph.specs.Ups.{HasFront, TellsUp}
 use Rattle.bdb_graph.specs.declared.ups.Up.{Up}
 use Rattle.bdb_graph.proofs.UpLemmas.{all_get, all_take_get}
@@ -44,14 +44,14 @@ no_edge_needed t m i n (suc d) e = absurd (omega arith)
 
 -- one more
 pub led_more : (t u : Tables) (ups : List Up) (k : ℕ) (other x : Up) (b : Bool) → k < length ups → u ≡ t → x ≡ get_or ups k other → b ≡ true
-    → MatchBool b (IsLed u x) (IsLed u x → ⊥) → AllByRecursion (IsLed t) (take k ups) → AllByRecursion (IsLed t) (take (k + 1) ups)
+    → MatchBool b (IsLedByEdge u x) (IsLedByEdge u x → ⊥) → AllByRecursion (IsLedByEdge t) (take k ups) → AllByRecursion (IsLedByEdge t) (take (k + 1) ups)
 led_more t u ups k other x b l same is good told h =
-    all_take_get (IsLed t) ups k other l h (subst (IsLed t) is (subst (λ v. IsLed v x) same (holding (IsLed u x) (IsLed u x → ⊥) b good told)))
+    all_take_get (IsLedByEdge t) ups k other l h (subst (IsLedByEdge t) is (subst (λ v. IsLedByEdge v x) same (holding (IsLedByEdge u x) (IsLedByEdge u x → ⊥) b good told)))
 
 pub not_led : (t u : Tables) (ups : List Up) (k : ℕ) (other x : Up) (b : Bool) → k < length ups → u ≡ t → x ≡ get_or ups k other → b ≡ false
-    → MatchBool b (IsLed u x) (IsLed u x → ⊥) → AllByRecursion (IsLed t) ups → ⊥
+    → MatchBool b (IsLedByEdge u x) (IsLedByEdge u x → ⊥) → AllByRecursion (IsLedByEdge t) ups → ⊥
 not_led t u ups k other x b l same is bad told h =
-    past (IsLed u x) (IsLed u x → ⊥) b bad told (subst (λ v. IsLed v x) (sym same) (subst (IsLed t) (sym is) (all_get (IsLed t) ups k other l h)))
+    past (IsLedByEdge u x) (IsLedByEdge u x → ⊥) b bad told (subst (λ v. IsLedByEdge v x) (sym same) (subst (IsLedByEdge t) (sym is) (all_get (IsLedByEdge t) ups k other l h)))
 
 -- where tables hold states, edges lead so
 module _ (t : Tables) (users : ℕ → Bool) (ns : Names) (h : HoldsStates users ns t) where
@@ -68,5 +68,5 @@ module _ (t : Tables) (users : ℕ → Bool) (ns : Names) (h : HoldsStates users
       ∙ ap (number_of ns) (deepest_of_member (is_named ns) (v ++ i ∷ []) named) ∙ number in
       h.tables.edge.rows (m, i) (record { first = h.names.sized v m (h.names.named m v front.1); second = h.numbers i user }) ∙ ap (option_map num_bytes) edge
 
-  pub all_are_led : (ups : List Up) → AllByRecursion (TellsUp t) ups → AllByRecursion (IsLed t) ups
-  all_are_led ups tell = all_weaker (TellsUp t) (IsLed t) ups (λ x told. front_leads x.wid x.from x.uid x.depth (told users ns h)) tell
+  pub all_are_led : (ups : List Up) → AllByRecursion (TellsUp t) ups → AllByRecursion (IsLedByEdge t) ups
+  all_are_led ups tell = all_weaker (TellsUp t) (IsLedByEdge t) ups (λ x told. front_leads x.wid x.from x.uid x.depth (told users ns h)) tell

@@ -20,7 +20,7 @@ use Rattle.bdb_names.proofs.NameLemmas.{deep_number, link_at_none, link_found}
 use Rattle.bdb_entries.proofs.ReadLemmas.{past}
 use Rattle.bdb_entries.proofs.TupleLemmas.{holding}
 use Rattle.bdb_graph.specs.Naming.{names_of, path_in}
-use Rattle.bdb_graph.specs.States.{AllKeysPass, AreIndexed, HasLink, IsWorldOf, is_right, is_world, link_from}
+use Rattle.bdb_graph.specs.States.{AllKeysPass, AreIndexed, HasLink, IsAmongWorlds, is_right, is_world, link_from}
 use Rattle.bdb_names.specs.declared.named.NamedWorld.{NamedWorld}
 use Rattle.bdb_graph.proofs.FindingLemmas.{all_by_place, each_at, member_is, world_at, world_fits}
 use Rattle.bdb_graph.proofs.PassLemmas.{no_row, row_told}
@@ -57,7 +57,7 @@ link_missing ns a (i ∷ w) found some none =
     let m = deep_number ns a w in
     sym (ap (λ o. is_right o (link_from ns (i ∷ w))) none ∙ ap (is_right None) m.1)
 
-pub link_told : (t : Tables) (ws : List NamedWorld) → AreNames (names_of ws) → (x : NamedWorld) → IsWorldOf ws x → (found : Option ℕ) (b : Bool) → HasAt link_codec t x.wid found
+pub link_told : (t : Tables) (ws : List NamedWorld) → AreNames (names_of ws) → (x : NamedWorld) → IsAmongWorlds ws x → (found : Option ℕ) (b : Bool) → HasAt link_codec t x.wid found
     → b ≡ is_right found (link_from (names_of ws) x.path) → MatchBool b (HasLink t ws x) (HasLink t ws x → ⊥)
 link_told t ws a x is found b h told =
     row_told link_codec number_rows_are_one t x.wid (link_of (names_of ws)) found (link_from (names_of ws) x.path) b h (link_is (names_of ws) x.wid x.path is) (link_from_fits (names_of ws) a x.path) told

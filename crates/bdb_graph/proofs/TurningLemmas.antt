@@ -23,7 +23,7 @@ use Rattle.bdb_tables.specs.Writes.{Gives}
 use Rattle.bdb_tables.proofs.Held.{leads_is}
 use Rattle.bdb_entries.proofs.ReadLemmas.{past}
 use Rattle.bdb_entries.proofs.TupleLemmas.{given_is, holding}
-use Rattle.bdb_graph.specs.Turning.{AreTurned, BothTurned, HasTurned, IsStep, TurnRound}
+use Rattle.bdb_graph.specs.Turning.{AreTurned, BothTurned, HasTurned, IsNextRow, TurnRound}
 use Rattle.bdb_graph.specs.Ups.{HoldNoStates}
 use Rattle.bdb_graph.specs.declared.turning.Way.{Way}
 use Rattle.bdb_graph.specs.declared.turning.Way.TheVariants.{Round, Back}
@@ -38,7 +38,7 @@ pub below_none : (t : Tables) (tab : ℕ) (way : Way) (other : ℕ) (low : List 
 below_none t tab way other low e [] r found under = absurd (false≢true (sym under ∙ ap (λ x. is_le (bytes_cmp x [])) e))
 below_none t tab way other low e (b ∷ k) r found under = absurd (false≢true (sym under ∙ ap (λ x. is_le (bytes_cmp x (b ∷ k))) e))
 
-pub below_more : (t u : Tables) (tab : ℕ) (way : Way) (other : ℕ) (low behind key row : List ℕ) → u ≡ t → IsStep u tab low behind key row → HasTurned t way other key row
+pub below_more : (t u : Tables) (tab : ℕ) (way : Way) (other : ℕ) (low behind key row : List ℕ) → u ≡ t → IsNextRow u tab low behind key row → HasTurned t way other key row
     → TurnedBelow t tab way other low → TurnedBelow t tab way other behind
 below_more t u tab way other low behind key row same step here h k r found under = elim (cases_Bool (is_le (bytes_cmp low k))) [
   | inl from ↦ by (eq_by_cmp bytes_cmp k key) refl
@@ -58,7 +58,7 @@ below_all t u tab way other low same none h k r found = elim (cases_Bool (is_le 
   | inr less ↦ h k r found less
 ]
 
-pub not_all : (t u v : Tables) (tab : ℕ) (way : Way) (other : ℕ) (low behind key row k r : List ℕ) → u ≡ t → v ≡ t → k ≡ key → r ≡ row → IsStep u tab low behind key row
+pub not_all : (t u v : Tables) (tab : ℕ) (way : Way) (other : ℕ) (low behind key row k r : List ℕ) → u ≡ t → v ≡ t → k ≡ key → r ≡ row → IsNextRow u tab low behind key row
     → (HasTurned v way other k r → ⊥) → AreTurned t tab way other → ⊥
 not_all t u v tab way other low behind key row k r same too ke re step bad all =
     bad (subst (λ w. HasTurned w way other k r) (sym too) (subst (λ x. HasTurned t way other x r) (sym ke) (subst (HasTurned t way other key) (sym re)

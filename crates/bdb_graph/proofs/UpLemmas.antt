@@ -29,7 +29,7 @@ use Rattle.bdb_names.proofs.NamedLemmas.{named_path, path_is_told}
 use Rattle.bdb_entries.proofs.ListedLemmas.{all_found}
 use Rattle.bdb_entries.proofs.ReadLemmas.{past}
 use Rattle.bdb_entries.proofs.TupleLemmas.{given_is, holding}
-use Rattle.bdb_graph.specs.Ups.{AreUps, HasDepth, HasFront, HasStart, HoldNoStates, IsParent, IsUp, Led, LeadsTo, NoParent, StartsAt, StartsElsewhere, TellsUp, depth_row, parent_in}
+use Rattle.bdb_graph.specs.Ups.{AreUps, HasDepth, HasFront, HasStart, HoldNoStates, IsParent, IsUp, Led, EdgeLeadsTo, NoParent, StartsAt, StartsElsewhere, TellsUp, depth_row, parent_in}
 use Rattle.bdb_graph.specs.declared.ups.Up.{Up}
 
 -- ---- any table
@@ -79,9 +79,9 @@ depth_missing t n d e h = none_is_some (num_bytes d) (sym e ∙ h.found)
 
 -- ---- edges that lead to a world
 
-pub rows_lead : (t : Tables) (n : ℕ) → IsNum n → (es : List Led) → AreUnder led_codec t (num_bytes n) es → AllByRecursion (LeadsTo t n) es
+pub rows_lead : (t : Tables) (n : ℕ) → IsNum n → (es : List Led) → AreUnder led_codec t (num_bytes n) es → AllByRecursion (EdgeLeadsTo t n) es
 rows_lead t n fits es h =
-    all_both (IsUnder led_codec (num_bytes n)) (λ e. tables.get t (place led_codec e.0) ≡ Some []) (LeadsTo t n) es
+    all_both (IsUnder led_codec (num_bytes n)) (λ e. tables.get t (place led_codec e.0) ≡ Some []) (EdgeLeadsTo t n) es
     (λ e u f. record {
       fits = u.key;
       found = f;
@@ -89,7 +89,7 @@ rows_lead t n fits es h =
     })
     h.each (under_found led_codec (num_bytes n) t es h)
 
-pub leads_from : (t : Tables) (n d : ℕ) → IsNum n → (e : Led) → LeadsTo t n e → HasDepth t e.0.1 d → IsParent t n d (e.0.1, e.0.2)
+pub leads_from : (t : Tables) (n d : ℕ) → IsNum n → (e : Led) → EdgeLeadsTo t n e → HasDepth t e.0.1 d → IsParent t n d (e.0.1, e.0.2)
 leads_from t n d fits e h depth = record {
   number = fits;
   user = h.fits.third;
@@ -185,11 +185,11 @@ starts_more t u d rows k other start b l same is bad told h =
     (subst (λ (p : ℕ × ℕ). HasDepth t p.0 d → ⊥) is (subst (λ v. HasDepth v start.0 d → ⊥) same (past (HasDepth u start.0 d) (HasDepth u start.0 d → ⊥) b bad told)))
 
 pub starts_here : (t u : Tables) (n d : ℕ) → IsNum n → (rows : List Led) (k : ℕ) (other : Led) (start : ℕ × ℕ) (b : Bool) → k < length rows → u ≡ t → start ≡ parent_in (get_or rows k other) → b ≡ true
-    → MatchBool b (HasDepth u start.0 d) (HasDepth u start.0 d → ⊥) → AllByRecursion (LeadsTo t n) rows → IsParent t n d start
+    → MatchBool b (HasDepth u start.0 d) (HasDepth u start.0 d → ⊥) → AllByRecursion (EdgeLeadsTo t n) rows → IsParent t n d start
 starts_here t u n d fits rows k other start b l same is good told h =
     let has = holding (HasDepth u start.0 d) (HasDepth u start.0 d → ⊥) b good told in
     let e = get_or rows k other in
-    subst (IsParent t n d) (sym is) (leads_from t n d fits e (all_get (LeadsTo t n) rows k other l h) (subst (λ (p : ℕ × ℕ). HasDepth t p.0 d) is (subst (λ v. HasDepth v start.0 d) same has)))
+    subst (IsParent t n d) (sym is) (leads_from t n d fits e (all_get (EdgeLeadsTo t n) rows k other l h) (subst (λ (p : ℕ × ℕ). HasDepth t p.0 d) is (subst (λ v. HasDepth v start.0 d) same has)))
 
 pub ups_more : (t : Tables) (rows : List (ℕ × ℕ)) (k : ℕ) (other row : ℕ × ℕ) (ups after : List Up) (x : Up) → k < length rows → row ≡ get_or rows k other
     → AreUps t (take k rows) ups → IsUp t row x → after ≡ ups ++ x ∷ [] → AreUps t (take (k + 1) rows) after

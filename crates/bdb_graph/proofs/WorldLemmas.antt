@@ -27,7 +27,7 @@ use Rattle.bdb_tables.specs.Writes.{Gives}
 use Rattle.bdb_names.proofs.Ends.{length_more, one_more}
 use Rattle.bdb_names.proofs.NamedLemmas.{cases_end}
 use Rattle.bdb_entries.proofs.TupleLemmas.{given_is, item_in, items_give}
-use Rattle.bdb_graph.specs.Leading.{AreLedUps, HasEdge, IsLed, has_root}
+use Rattle.bdb_graph.specs.Leading.{AreLedUps, HasEdge, IsLedByEdge, has_root}
 use Rattle.bdb_graph.specs.Naming.{AreNamedUps, AreWorlds, IsClimbed, climb, climbed_as, named_as, names_of, number_in, number_of_up, path_in, up_in}
 use Rattle.bdb_graph.specs.Ups.{AreUps, HasDepth, HasStart, HoldNoStates, StartsAt, depth_row}
 use Rattle.bdb_names.specs.declared.named.NamedWorld.{NamedWorld}
@@ -182,7 +182,7 @@ pub record HasParent (t : Tables) (ws : List NamedWorld) (n i : ℕ) (v : List �
   pub edge : tables.get t (place edge_codec (from, i)) ≡ Some (num_bytes n)
 
 module _ (t : Tables) (depths : List (ℕ × ℕ)) (ups : List Up) (under : AreUnder depth_codec t [] depths) (are : AreUps t depths ups) (ws : List NamedWorld)
-    (made : map named_as ws ≡ map (climbed_as ups) ups) (led : AllByRecursion (IsLed t) ups) where
+    (made : map named_as ws ≡ map (climbed_as ups) ups) (led : AllByRecursion (IsLedByEdge t) ups) where
   number_same : (n : ℕ) (x : Up) → up_in ups n ≡ Some x → x.wid ≡ n
   number_same n x e = (up_tells (HasStart t) ups n x are.starts e).0
 
@@ -232,7 +232,7 @@ module _ (t : Tables) (depths : List (ℕ × ℕ)) (ups : List Up) (under : AreU
       let own : s.up.depth ≡ suc (length v) = ap (λ (x : Up). x.depth) same ∙ deep in
       let start : StartsAt t s.up.from (suc (length v)) = subst (StartsAt t s.up.from) own (up_tells (HasStart t) ups n s.up are.starts s.found).1 in
       let y = up_at_depth s.up.from (length v) start in
-      let edge : HasEdge t s.up.from s.up.uid s.up.wid (suc (length v)) = subst (HasEdge t s.up.from s.up.uid s.up.wid) own (up_tells (IsLed t) ups n s.up led s.found).1 in
+      let edge : HasEdge t s.up.from s.up.uid s.up.wid (suc (length v)) = subst (HasEdge t s.up.from s.up.uid s.up.wid) own (up_tells (IsLedByEdge t) ups n s.up led s.found).1 in
       record {
         from = s.up.from;
         path = path_there s.up.from y.0 v y.1 (ap (λ d. climb ups d s.up.from []) y.2 ∙ s.climbed ∙ ap Some (sym parts.0));
@@ -439,12 +439,12 @@ pub no_tree : (t : Tables) (depths : List (ℕ × ℕ)) (ups given : List Up) �
 no_tree t depths ups given under are is bad users ns h =
     false≢true (sym bad ∙ ap (λ xs. nat_le (length xs) most_numbered && has_root xs) is ∙ trees_pass t users ns h depths ups under are)
 
-pub no_led : (t u : Tables) (depths : List (ℕ × ℕ)) (ups given : List Up) → AreUps t depths ups → u ≡ t → given ≡ ups → (AllByRecursion (IsLed u) given → ⊥) → HoldNoStates t
+pub no_led : (t u : Tables) (depths : List (ℕ × ℕ)) (ups given : List Up) → AreUps t depths ups → u ≡ t → given ≡ ups → (AllByRecursion (IsLedByEdge u) given → ⊥) → HoldNoStates t
 no_led t u depths ups given are same is bad users ns h =
-    bad (subst (λ v. AllByRecursion (IsLed v) given) (sym same) (subst (AllByRecursion (IsLed t)) (sym is) (all_are_led t users ns h ups are.tell)))
+    bad (subst (λ v. AllByRecursion (IsLedByEdge v) given) (sym same) (subst (AllByRecursion (IsLedByEdge t)) (sym is) (all_are_led t users ns h ups are.tell)))
 
 pub led_known : (t u : Tables) (depths : List (ℕ × ℕ)) (ups given too : List Up) → AreUnder depth_codec t [] depths → AreUps t depths ups → u ≡ t → given ≡ ups → too ≡ ups
-    → (nat_le (length given) most_numbered && has_root given) ≡ true → AllByRecursion (IsLed u) too → AreLedUps t ups
+    → (nat_le (length given) most_numbered && has_root given) ≡ true → AllByRecursion (IsLedByEdge u) too → AreLedUps t ups
 led_known t u depths ups given too under are same is also good led =
     let p = and_parts (nat_le (length ups) most_numbered) (has_root ups) (ap (λ xs. nat_le (length xs) most_numbered && has_root xs) (sym is) ∙ good) in
     record {
@@ -453,7 +453,7 @@ led_known t u depths ups given too under are same is also good led =
       are = are;
       few = leb-true (length ups) most_numbered p.0;
       root = p.1;
-      led = subst (λ v. AllByRecursion (IsLed v) ups) same (subst (AllByRecursion (IsLed u)) also led);
+      led = subst (λ v. AllByRecursion (IsLedByEdge v) ups) same (subst (AllByRecursion (IsLedByEdge u)) also led);
     }
 
 pub worlds_known : (t : Tables) (ups given : List Up) → AreLedUps t ups → given ≡ ups → (ws : List NamedWorld) → AreNamedUps given given ws → AreWorlds t ws

@@ -18,8 +18,8 @@ HasEdge t m i n zero = Unit {0}
 HasEdge t m i n (suc d) = tables.get t (place edge_codec (m, i)) ≡ Some (num_bytes n)
 
 -- the edge of the world from which a world comes leads to it
-abbrev pub IsLed : Tables → Up → Type 0
-IsLed t x = HasEdge t x.from x.uid x.wid x.depth
+abbrev pub IsLedByEdge : Tables → Up → Type 0
+IsLedByEdge t x = HasEdge t x.from x.uid x.wid x.depth
 
 -- world 0 is at depth 0
 abbrev pub has_root : List Up → Bool
@@ -33,4 +33,4 @@ pub record AreLedUps (t : Tables) (ups : List Up) : Type 0 where
   pub are : AreUps t depths ups
   pub few : length ups ≤ most_numbered
   pub root : has_root ups ≡ true
-  pub led : AllByRecursion (IsLed t) ups
+  pub led : AllByRecursion (IsLedByEdge t) ups

@@ -39,8 +39,8 @@ pub record AreIndexed (worlds : List NamedWorld) (paths : List (List ℕ)) : Typ
   pub listed : ArePathsOf worlds paths
 
 -- a world is one of these, and its number stands for its path alone
-abbrev pub IsWorldOf : List NamedWorld → NamedWorld → Type 0
-IsWorldOf worlds x = path_in worlds x.wid ≡ Some x.path
+abbrev pub IsAmongWorlds : List NamedWorld → NamedWorld → Type 0
+IsAmongWorlds worlds x = path_in worlds x.wid ≡ Some x.path
 
 -- each path is one of users only
 abbrev pub have_own_paths : (ℕ → Bool) → List NamedWorld → Bool

@@ -29,7 +29,7 @@ pub record BothTurned (t : Tables) (tab other : ℕ) : Type 0 where
   pub back : AreTurned t other Back tab
 
 -- this is the first row from `low` on, and `behind` the least key above its key
-pub record IsStep (t : Tables) (tab : ℕ) (low behind key row : List ℕ) : Type 0 where
+pub record IsNextRow (t : Tables) (tab : ℕ) (low behind key row : List ℕ) : Type 0 where
   pub least : IsLeastFrom t tab low key row
   pub moved : behind ≡ next_key key
 

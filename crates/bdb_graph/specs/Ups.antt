@@ -30,7 +30,7 @@ abbrev pub parent_in : Led → ℕ × ℕ
 parent_in e = (e.0.1, e.0.2)
 
 -- an edge of the tables leads to a world
-pub record LeadsTo (t : Tables) (n : ℕ) (e : Led) : Type 0 where
+pub record EdgeLeadsTo (t : Tables) (n : ℕ) (e : Led) : Type 0 where
   pub fits : IsTriple e.0
   pub found : tables.get t (place led_codec e.0) ≡ Some []
   pub to : e.0.0 ≡ n

@@ -13,7 +13,7 @@ ghost use Rattle.bdb_tables.specs.Names.{edge_from, edge_of};
 ghost use Rattle.bdb_tables.specs.Writes.{Gives};
 ghost use Rattle.bdb_tables.specs.Reading.{OnlyReads};
 ghost use Rattle.bdb_graph.specs.Naming.{names_of};
-ghost use Rattle.bdb_graph.specs.States.{AllKeysPass, AreIndexed, HasEdgeFor, HasEdges, HasNextKey, IsWorldOf, is_edge_key, is_right, number_of_world};
+ghost use Rattle.bdb_graph.specs.States.{AllKeysPass, AreIndexed, HasEdgeFor, HasEdges, HasNextKey, IsAmongWorlds, is_edge_key, is_right, number_of_world};
 
 use crate::finding::{is_world, leads_to};
 use bdb_base::{Path, UserSlot, is_user, path_is_suffix};
@@ -94,7 +94,7 @@ fn has_edges<K: Keeper>(
     requires grammar { InGrammar (K.seen keeper.old).kept }
     requires users { length users.now ≤ most_users }
     requires worlds { AreIndexed worlds.now paths.now }
-    requires world { IsWorldOf worlds.now world.now }
+    requires world { IsAmongWorlds worlds.now world.now }
     ensures edges { IfOk result
         (λ has. MatchBool has
         (HasEdges (K.seen keeper.old).kept (is_user users.now) worlds.now world.now)
@@ -126,7 +126,7 @@ fn has_edge<K: Keeper>(
 ) -> Result<bool, TabError>
     requires grammar { InGrammar (K.seen keeper.old).kept }
     requires worlds { AreIndexed worlds.now paths.now }
-    requires world { IsWorldOf worlds.now world.now }
+    requires world { IsAmongWorlds worlds.now world.now }
     requires user { is_user users.now uid ≡ true }
     ensures edge { IfOk result
         (λ has. MatchBool has

@@ -5,7 +5,7 @@ ghost use Rattle.std.specs.List.{AllByRecursion};
 ghost use Rattle.bdb_tables.specs.Grammar.{InGrammar};
 ghost use Rattle.bdb_tables.specs.Names.{most_numbered};
 ghost use Rattle.bdb_tables.specs.Reading.{OnlyReads};
-ghost use Rattle.bdb_graph.specs.Leading.{AreLedUps, HasEdge, IsLed, has_root};
+ghost use Rattle.bdb_graph.specs.Leading.{AreLedUps, HasEdge, IsLedByEdge, has_root};
 ghost use Rattle.bdb_graph.specs.Ups.{HoldNoStates};
 
 use crate::ups::{Up, raw_ups};
@@ -68,8 +68,8 @@ fn has_root(ups: &[Up]) -> bool
 fn each_is_led<K: Keeper>(alloc: Global, keeper: &mut K, ups: &[Up]) -> Result<bool, TabError>
     requires grammar { InGrammar (K.seen keeper.old).kept }
     ensures led { IfOk result
-        (λ b. MatchBool b (AllByRecursion (IsLed (K.seen keeper.old).kept) ups.now)
-        (AllByRecursion (IsLed (K.seen keeper.old).kept) ups.now → ⊥)) }
+        (λ b. MatchBool b (AllByRecursion (IsLedByEdge (K.seen keeper.old).kept) ups.now)
+        (AllByRecursion (IsLedByEdge (K.seen keeper.old).kept) ups.now → ⊥)) }
     ensures reading { OnlyReads (K.seen keeper.old) (K.seen keeper.new) result TabError.Fault }
 {
     for up in ups {

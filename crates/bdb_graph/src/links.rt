@@ -11,7 +11,7 @@ ghost use Rattle.bdb_tables.specs.Names.{link_of};
 ghost use Rattle.bdb_tables.specs.Writes.{Gives};
 ghost use Rattle.bdb_tables.specs.Reading.{OnlyReads};
 ghost use Rattle.bdb_graph.specs.Naming.{names_of};
-ghost use Rattle.bdb_graph.specs.States.{AllKeysPass, AreIndexed, HasLink, HasNextKey, IsWorldOf, is_right, is_world, link_from, number_of_world};
+ghost use Rattle.bdb_graph.specs.States.{AllKeysPass, AreIndexed, HasLink, HasNextKey, IsAmongWorlds, is_right, is_world, link_from, number_of_world};
 
 use crate::finding::{is_world, leads_to};
 use bdb_base::Path;
@@ -80,7 +80,7 @@ fn has_link<K: Keeper>(
 ) -> Result<bool, TabError>
     requires grammar { InGrammar (K.seen keeper.old).kept }
     requires worlds { AreIndexed worlds.now paths.now }
-    requires world { IsWorldOf worlds.now world.now }
+    requires world { IsAmongWorlds worlds.now world.now }
     ensures link { IfOk result
         (λ has. MatchBool has (HasLink (K.seen keeper.old).kept worlds.now world.now)
         (HasLink (K.seen keeper.old).kept worlds.now world.now → ⊥)) }

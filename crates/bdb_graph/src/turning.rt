@@ -6,7 +6,7 @@ ghost use Rattle.bdb_keep.specs.Scans.{next_key};
 ghost use Rattle.bdb_keep.specs.Tables.{NoneFrom};
 ghost use Rattle.bdb_tables.specs.Grammar.{InGrammar};
 ghost use Rattle.bdb_tables.specs.Reading.{OnlyReads};
-ghost use Rattle.bdb_graph.specs.Turning.{AreTurned, BothTurned, HasTurned, IsStep, TurnRound, turned};
+ghost use Rattle.bdb_graph.specs.Turning.{AreTurned, BothTurned, HasTurned, IsNextRow, TurnRound, turned};
 ghost use Rattle.bdb_graph.specs.Ups.{HoldNoStates};
 
 use bdb_entries::are_same;
@@ -112,7 +112,7 @@ fn step<K: Keeper>(
     ensures found { IfOk result
         (λ found.
         MatchBool found
-        (IsStep (K.seen keeper.old).kept tab low.old.items low.new.items key.new.items
+        (IsNextRow (K.seen keeper.old).kept tab low.old.items low.new.items key.new.items
         row.new.items) (NoneFrom (K.seen keeper.old).kept tab low.old.items)) }
     ensures read { IsRead (K.seen keeper.old) (K.seen keeper.new) result TabError.Fault }
 {

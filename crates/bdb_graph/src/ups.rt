@@ -6,7 +6,7 @@ ghost use Rattle.bdb_keep.specs.Calls.{IsRead};
 ghost use Rattle.bdb_key.specs.Bytes.{num_bytes};
 ghost use Rattle.bdb_tables.specs.Grammar.{InGrammar};
 ghost use Rattle.bdb_tables.specs.Reading.{OnlyReads};
-ghost use Rattle.bdb_graph.specs.Ups.{AreUps, HasDepth, HoldNoStates, IsParent, IsUp, LeadsTo, NoParent, StartsElsewhere, parent_in};
+ghost use Rattle.bdb_graph.specs.Ups.{AreUps, EdgeLeadsTo, HasDepth, HoldNoStates, IsParent, IsUp, NoParent, StartsElsewhere, parent_in};
 
 use crate::numbers::HasNumber;
 use bdb_keep::Keeper;
@@ -149,7 +149,7 @@ fn first_from<K: Keeper>(
     depth: u32,
 ) -> Result<Option<(u32, u32)>, TabError>
     requires grammar { InGrammar (K.seen keeper.old).kept }
-    requires rows { AllByRecursion (LeadsTo (K.seen keeper.old).kept wid) rows.now }
+    requires rows { AllByRecursion (EdgeLeadsTo (K.seen keeper.old).kept wid) rows.now }
     ensures first { IfOk result
         (λ r. MatchOption r
         (AllByRecursion (StartsElsewhere (K.seen keeper.old).kept depth) rows.now)

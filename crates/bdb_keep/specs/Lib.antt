@@ -1,6 +1,8 @@
+-- what the headline is made of, in the order of docs/BELIEVE.md
+pub mod Tables
+pub mod Seen
 pub mod Calls
 pub mod Marked
-pub mod Scans
-pub mod Seen
 pub mod Spans
-pub mod Tables
+-- words between crates, and for private loops and lemmas
+pub mod Scans

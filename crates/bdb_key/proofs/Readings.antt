@@ -25,7 +25,7 @@ use Rattle.bdb_base.specs.declared.kinds.RelDef.{RelDef}
 use Rattle.bdb_key.specs.Rows.{IsAnyKind, IsCol, IsAnySign, IsRelRow, IsTupleRow, tuple_bytes, kind_bytes, col_bytes, cols_bytes, length_bytes, rel_bytes, sign_bytes}
 use Rattle.bdb_key.specs.Bytes.{num_bytes, int_bytes, text_bytes, value_bytes, values_bytes, path_bytes}
 use Rattle.bdb_key.specs.Grammar.{IsNum, IsPlain, IsPlainValue, ArePlain, IsKeyPath}
-use Rattle.bdb_key.specs.Reading.{Leads, NoneLeads, Reads, NoneReads, AreMany, nums_bytes, HasNoEnd, EndsAt}
+use Rattle.bdb_key.specs.Reading.{Leads, NoneLeads, Reads, NoneReads, AreMany, nums_bytes, HasNoEnd, SplitsAtZero}
 use Rattle.bdb_key.proofs.Compared.{nums, users, values, paths, values_tie, paths_tie, printing, IsPrinting}
 use Rattle.bdb_key.proofs.Forms.{one_form, both_equal, same_bytes, tied}
 
@@ -204,7 +204,7 @@ one_end (c ∷ a) (d ∷ b) x y ha hb e =
     ap (λ n. n ∷ a) g ∙ ap (λ (r : List ℕ). d ∷ r) h
 
 -- what stands before the first 0 is no plain text
-pub no_text : (bytes front rest : List ℕ) → EndsAt bytes front rest → is_plain front ≡ false → NoneLeads IsPlain text_bytes (2 ∷ bytes)
+pub no_text : (bytes front rest : List ℕ) → SplitsAtZero bytes front rest → is_plain front ≡ false → NoneLeads IsPlain text_bytes (2 ∷ bytes)
 no_text bytes front rest h no_plain text r u =
     let e : bytes ≡ text ++ 0 ∷ r = tail_of (u.split ∙ ap (λ (s : List ℕ). 2 ∷ s) (append_assoc text (0 ∷ []) r)) in
     let same = one_end front text rest r h.none (no_end text (printing text u.fits)) (sym h.split ∙ e) in

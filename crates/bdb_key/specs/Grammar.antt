@@ -20,9 +20,9 @@ abbrev pub IsNum : ℕ → Type 0
 IsNum n = n < 2 ^ 32
 
 -- an integer is one of eight bytes
-abbrev pub IsWhole : Value → Type 0
-IsWhole (Int m) = FitsSigned w64 m
-IsWhole (Text text) = Unit {0}
+abbrev pub HasEightBytes : Value → Type 0
+HasEightBytes (Int m) = FitsSigned w64 m
+HasEightBytes (Text text) = Unit {0}
 
 -- a text is a plain one
 abbrev pub HasPlainText : Value → Type 0
@@ -81,6 +81,6 @@ IsShortPart (parts.Path path) = IsNum (length path)
 -- a part whose numbers are of four bytes, and whose integers are of eight
 abbrev pub IsWholePart : Part → Type 0
 IsWholePart (parts.Num n) = IsNum n
-IsWholePart (parts.Val value) = IsWhole value
-IsWholePart (parts.Vals values) = AllByRecursion IsWhole values
+IsWholePart (parts.Val value) = HasEightBytes value
+IsWholePart (parts.Vals values) = AllByRecursion HasEightBytes values
 IsWholePart (parts.Path path) = AllByRecursion IsNum path

@@ -32,7 +32,7 @@ abbrev pub HasNoEnd : List ℕ → Type 0
 HasNoEnd bytes = list_all (λ b. not (nat_eq b 0)) bytes ≡ true
 
 -- the bytes before the first 0, and those after it
-pub record EndsAt (bytes front rest : List ℕ) : Type 0 where
+pub record SplitsAtZero (bytes front rest : List ℕ) : Type 0 where
   pub none : HasNoEnd front
   pub split : bytes ≡ front ++ 0 ∷ rest
 

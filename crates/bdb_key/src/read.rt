@@ -6,7 +6,7 @@ ghost use Rattle.std.specs.Str.{is_utf8};
 ghost use Rattle.bdb_base.specs.Bases.{is_plain};
 ghost use Rattle.bdb_key.specs.Bytes.{num_bytes, int_bytes, text_bytes, value_bytes, values_bytes, vals_bytes, path_bytes};
 ghost use Rattle.bdb_key.specs.Grammar.{IsNum, IsPlain, IsPlainValue, ArePlain, AreKeyVals, IsKeyPath};
-ghost use Rattle.bdb_key.specs.Reading.{Leads, NoneLeads, Reads, NoneReads, AreMany, nums_bytes, HasNoEnd, EndsAt};
+ghost use Rattle.bdb_key.specs.Reading.{Leads, NoneLeads, Reads, NoneReads, AreMany, nums_bytes, HasNoEnd, SplitsAtZero};
 
 use crate::part::KeyError;
 use bdb_base::limits::LONGEST_TEXT;
@@ -199,7 +199,7 @@ fn after_mark(bytes: &[u8]) -> Option<&[u8]>
 
 // The bytes before the first 0, and those after it.
 fn split_at_end(bytes: &[u8]) -> Option<(&[u8], &[u8])>
-    ensures { MatchOption result (HasNoEnd bytes.now) (λ x. EndsAt bytes.now x.0.now x.1.now) }
+    ensures { MatchOption result (HasNoEnd bytes.now) (λ x. SplitsAtZero bytes.now x.0.now x.1.now) }
 {
     for (at, byte) in bytes.iter().enumerate() {
         if *byte == 0 {

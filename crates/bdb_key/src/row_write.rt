@@ -2,7 +2,7 @@
 ghost use Rattle.std.specs.Prelude.{◌≡◌, ◌++◌, OnOk, OnErr};
 ghost use Rattle.std.specs.List.{AllByRecursion};
 ghost use Rattle.bdb_key.specs.Bytes.{Grows};
-ghost use Rattle.bdb_key.specs.Grammar.{IsNum, IsWhole};
+ghost use Rattle.bdb_key.specs.Grammar.{HasEightBytes, IsNum};
 ghost use Rattle.bdb_key.specs.Rows.{kind_bytes, cols_bytes, rel_bytes, tuple_bytes, slot_bytes, sign_bytes, mark_bytes, row_bytes};
 
 use crate::row::TabRow;
@@ -29,7 +29,7 @@ pub fn put_rel(out: &mut Vec<u8>, def: &RelDef) -> Result<(), AllocError>
 pub fn put_tuple(out: &mut Vec<u8>, tuple: &Tuple) -> Result<(), AllocError>
     ensures ok { OnOk result (out.new.items ≡ out.old.items ++ tuple_bytes tuple.now) }
     ensures rel { OnOk result (IsNum tuple.now.rel) }
-    ensures whole { OnOk result (AllByRecursion IsWhole tuple.now.vals) }
+    ensures whole { OnOk result (AllByRecursion HasEightBytes tuple.now.vals) }
     ensures err { OnErr result (out.new.items ≡ out.old.items) }
 {
     let before = out.len();
@@ -134,7 +134,7 @@ fn put_kind(out: &mut Vec<u8>, kind: Kind) -> Result<(), AllocError>
 fn push_tuple(out: &mut Vec<u8>, tuple: &Tuple) -> Result<(), AllocError>
     ensures ok { OnOk result (out.new.items ≡ out.old.items ++ tuple_bytes tuple.now) }
     ensures rel { OnOk result (IsNum tuple.now.rel) }
-    ensures whole { OnOk result (AllByRecursion IsWhole tuple.now.vals) }
+    ensures whole { OnOk result (AllByRecursion HasEightBytes tuple.now.vals) }
     ensures err { OnErr result (Grows out.old.items out.new.items) }
 {
     put_num(out, tuple.rel)?;

@@ -2,7 +2,7 @@
 ghost use Rattle.std.specs.Prelude.{◌≡◌, ◌++◌, length, OnOk, OnErr};
 ghost use Rattle.std.specs.List.{AllByRecursion};
 ghost use Rattle.bdb_key.specs.Bytes.{num_bytes, int_bytes, text_bytes, value_bytes, values_bytes, vals_bytes, path_bytes, part_bytes, key_bytes, Grows};
-ghost use Rattle.bdb_key.specs.Grammar.{IsNum, IsWhole, IsShortPart, IsWholePart};
+ghost use Rattle.bdb_key.specs.Grammar.{IsNum, HasEightBytes, IsShortPart, IsWholePart};
 
 use crate::part::Part;
 use bdb_base::{Path, Txt, Value};
@@ -34,7 +34,7 @@ pub fn put_text(out: &mut Vec<u8>, text: &Txt) -> Result<(), AllocError>
 /// Appends a value. After a refusal the bytes are unchanged.
 pub fn put_value(out: &mut Vec<u8>, value: &Value) -> Result<(), AllocError>
     ensures ok { OnOk result (out.new.items ≡ out.old.items ++ value_bytes value.now) }
-    ensures whole { OnOk result (IsWhole value.now) }
+    ensures whole { OnOk result (HasEightBytes value.now) }
     ensures err { OnErr result (out.new.items ≡ out.old.items) }
 {
     match value {
@@ -46,7 +46,7 @@ pub fn put_value(out: &mut Vec<u8>, value: &Value) -> Result<(), AllocError>
 /// Appends values up to the end of a key or row. After a refusal the bytes are unchanged.
 pub fn put_values(out: &mut Vec<u8>, values: &[Value]) -> Result<(), AllocError>
     ensures ok { OnOk result (out.new.items ≡ out.old.items ++ values_bytes values.now) }
-    ensures whole { OnOk result (AllByRecursion IsWhole values.now) }
+    ensures whole { OnOk result (AllByRecursion HasEightBytes values.now) }
     ensures err { OnErr result (out.new.items ≡ out.old.items) }
 {
     let before = out.len();
@@ -64,7 +64,7 @@ pub fn put_values(out: &mut Vec<u8>, values: &[Value]) -> Result<(), AllocError>
 pub fn put_vals(out: &mut Vec<u8>, values: &[Value]) -> Result<(), AllocError>
     requires { IsNum (length values.now) }
     ensures ok { OnOk result (out.new.items ≡ out.old.items ++ vals_bytes values.now) }
-    ensures whole { OnOk result (AllByRecursion IsWhole values.now) }
+    ensures whole { OnOk result (AllByRecursion HasEightBytes values.now) }
     ensures err { OnErr result (out.new.items ≡ out.old.items) }
 {
     let before = out.len();
@@ -135,7 +135,7 @@ fn push_text(out: &mut Vec<u8>, text: &Txt) -> Result<(), AllocError>
 // As `put_values`, but a refusal may leave a part behind.
 fn push_values(out: &mut Vec<u8>, values: &[Value]) -> Result<(), AllocError>
     ensures ok { OnOk result (out.new.items ≡ out.old.items ++ values_bytes values.now) }
-    ensures whole { OnOk result (AllByRecursion IsWhole values.now) }
+    ensures whole { OnOk result (AllByRecursion HasEightBytes values.now) }
     ensures err { OnErr result (Grows out.old.items out.new.items) }
 {
     for value in values {
@@ -148,7 +148,7 @@ fn push_values(out: &mut Vec<u8>, values: &[Value]) -> Result<(), AllocError>
 fn push_vals(out: &mut Vec<u8>, values: &[Value]) -> Result<(), AllocError>
     requires { IsNum (length values.now) }
     ensures ok { OnOk result (out.new.items ≡ out.old.items ++ vals_bytes values.now) }
-    ensures whole { OnOk result (AllByRecursion IsWhole values.now) }
+    ensures whole { OnOk result (AllByRecursion HasEightBytes values.now) }
     ensures err { OnErr result (Grows out.old.items out.new.items) }
 {
     put_num(out, values.len() as u32)?;

@@ -9,14 +9,14 @@ use Rattle.bdb_canon.specs.declared.sizes.Counts.{Counts}
 use Rattle.bdb_keep.specs.Seen.{Seen}
 use Rattle.bdb_keep.specs.Tables.{Tables}
 use Rattle.bdb_tables.specs.Stored.{Stores}
-use Rattle.bdb_update.specs.Calls.{StoresSized, are_apart, with_stmts}
+use Rattle.bdb_update.specs.Calls.{StoresSized, none_comes_again, with_stmts}
 use Rattle.bdb_update.specs.Replacing.{Go, MayGo, SomeMayGo}
 use Rattle.bdb_update.specs.Steps.{GoesThrough, WritesThrough, steps_without}
 use Rattle.bdb_update.proofs.ReplaceLemmas.{from_still}
 use Rattle.bdb_update.proofs.TakenLemmas.{others_are_left, taken_apart, taken_stand}
 use Rattle.bdb_catalog.specs.Bases.{StoresSome}
 use Rattle.bdb_catalog.specs.Opening.{IsPartOf}
-use Rattle.bdb_catalog.specs.Place.{LosesUser, MayLoseUser, SomeMayLoseUser, WritesPlace}
+use Rattle.bdb_catalog.specs.Place.{LosesUser, MayLoseUser, SomeMayLoseUser, WritesEmptied}
 use Rattle.bdb_leaving.specs.Leaving.{LeavesThrough, MayDropUser, SomeMayDropUser, UserLeaves}
 
 pub some_valid : (t : Tables) (counts : Counts) (uid : ℕ) → SomeMayDropUser t counts uid → StoresSome t
@@ -31,8 +31,8 @@ module _ (t mid : Tables) (same : mid ≡ t) (counts : Counts) (uid : ℕ) (gone
   gone_stand : (b : Contents) → MayDropUser t counts uid b → list_all (stands b.stmts) gone ≡ true
   gone_stand b h = ap (list_all (stands b.stmts)) (gone_is b h) ∙ taken_stand (λ x. names_user uid x.path) b.stmts
 
-  gone_apart : (b : Contents) → MayDropUser t counts uid b → are_apart gone ≡ true
-  gone_apart b h = ap are_apart (gone_is b h) ∙ taken_apart (λ x. names_user uid x.path) b.stmts h.base.valid.stmts.sorted
+  gone_apart : (b : Contents) → MayDropUser t counts uid b → none_comes_again gone ≡ true
+  gone_apart b h = ap none_comes_again (gone_is b h) ∙ taken_apart (λ x. names_user uid x.path) b.stmts h.base.valid.stmts.sorted
 
   may_go : (b : Contents) → MayDropUser t counts uid b → MayGo mid counts gone b
   may_go b h = record {
@@ -73,7 +73,7 @@ module _ (t mid : Tables) (same : mid ≡ t) (counts : Counts) (uid : ℕ) (gone
 
 -- how often is written
 pub left_through : (old mid low new : Seen) (counts after : Counts) (uid : ℕ) (gone : List Stmt) → mid.kept ≡ old.kept → mid.writes ≡ old.writes
-    → IsPartOf (λ b. statements_naming uid b.stmts) old.kept gone → Go mid.kept low.kept counts after gone → GoesThrough counts gone mid low → WritesPlace low new uid → LeavesThrough counts uid old new
+    → IsPartOf (λ b. statements_naming uid b.stmts) old.kept gone → Go mid.kept low.kept counts after gone → GoesThrough counts gone mid low → WritesEmptied low new uid → LeavesThrough counts uid old new
 left_through old mid low new counts after uid gone same still named went goes place b h = record {
   between = low;
   gone = from_still old mid low (steps_without b (statements_naming uid b.stmts)) same still

@@ -26,7 +26,7 @@ use Rattle.bdb_base.proofs.WorldRowsLemmas.{list_all-flat_map, list_any-flat_map
 use Rattle.bdb_base.proofs.BoolLemmas.{same_tests}
 use Rattle.bdb_paths.proofs.StateLemmas.{list_has_states}
 use Rattle.bdb_stored.proofs.TreeLemmas.{ascending_append}
-use Rattle.bdb_leaving.specs.Naming.{naming_at, said, said_at}
+use Rattle.bdb_leaving.specs.Naming.{naming_at, said, said_by_world}
 
 -- ---- what the explicit rows of one world say
 
@@ -37,53 +37,53 @@ module _ (w : List ℕ) where
       ap (λ r. is_lt (ordering_then r (ordering_then (tuple_cmp a.tuple b.tuple) (sign_cmp a.sign b.sign)))) (is_eq-Equal (path_cmp w w) (is_eq_itself path_exact w))
       ∙ ap (λ r. is_lt (ordering_then r (sign_cmp a.sign b.sign))) (is_lt-Less (tuple_cmp a.tuple b.tuple) e)
 
-  said_above : (a : Held) (hs : List Held) → list_all (λ h. is_lt (row_tuple_cmp a h)) hs ≡ true → list_all (λ x. is_lt (statement_cmp (said w a) x)) (said_at w hs) ≡ true
+  said_above : (a : Held) (hs : List Held) → list_all (λ h. is_lt (row_tuple_cmp a h)) hs ≡ true → list_all (λ x. is_lt (statement_cmp (said w a) x)) (said_by_world w hs) ≡ true
   said_above a [] e = refl
   said_above a (h ∷ hs) e =
       let k = and_parts (is_lt (row_tuple_cmp a h)) (list_all (λ g. is_lt (row_tuple_cmp a g)) hs) e in
       by h.explicit (less_said a h k.0) (said_above a hs k.1)
     where
-      by : (b : Bool) → is_lt (statement_cmp (said w a) (said w h)) ≡ true → list_all (λ x. is_lt (statement_cmp (said w a) x)) (said_at w hs) ≡ true
+      by : (b : Bool) → is_lt (statement_cmp (said w a) (said w h)) ≡ true → list_all (λ x. is_lt (statement_cmp (said w a) x)) (said_by_world w hs) ≡ true
           → list_all (λ x. is_lt (statement_cmp (said w a) x)) (map (said w) (cond b (h ∷ filter (λ g. g.explicit) hs) (filter (λ g. g.explicit) hs))) ≡ true
-      by true p q = and_from (is_lt (statement_cmp (said w a) (said w h))) (list_all (λ x. is_lt (statement_cmp (said w a) x)) (said_at w hs)) p q
+      by true p q = and_from (is_lt (statement_cmp (said w a) (said w h))) (list_all (λ x. is_lt (statement_cmp (said w a) x)) (said_by_world w hs)) p q
       by false p q = q
 
-  said_ascend : (hs : List Held) → ascending row_tuple_cmp hs ≡ true → ascending statement_cmp (said_at w hs) ≡ true
+  said_ascend : (hs : List Held) → ascending row_tuple_cmp hs ≡ true → ascending statement_cmp (said_by_world w hs) ≡ true
   said_ascend [] e = refl
   said_ascend (h ∷ hs) e =
       let k = and_parts (list_all (λ g. is_lt (row_tuple_cmp h g)) hs) (ascending row_tuple_cmp hs) e in
       by h.explicit (said_above h hs k.0) (said_ascend hs k.1)
     where
-      by : (b : Bool) → list_all (λ x. is_lt (statement_cmp (said w h) x)) (said_at w hs) ≡ true → ascending statement_cmp (said_at w hs) ≡ true
+      by : (b : Bool) → list_all (λ x. is_lt (statement_cmp (said w h) x)) (said_by_world w hs) ≡ true → ascending statement_cmp (said_by_world w hs) ≡ true
           → ascending statement_cmp (map (said w) (cond b (h ∷ filter (λ g. g.explicit) hs) (filter (λ g. g.explicit) hs))) ≡ true
-      by true p q = and_from (list_all (λ x. is_lt (statement_cmp (said w h) x)) (said_at w hs)) (ascending statement_cmp (said_at w hs)) p q
+      by true p q = and_from (list_all (λ x. is_lt (statement_cmp (said w h) x)) (said_by_world w hs)) (ascending statement_cmp (said_by_world w hs)) p q
       by false p q = q
 
   -- all are of the path
-  said_own : (hs : List Held) → list_all (λ x. same_path x.path w) (said_at w hs) ≡ true
+  said_own : (hs : List Held) → list_all (λ x. same_path x.path w) (said_by_world w hs) ≡ true
   said_own [] = refl
   said_own (h ∷ hs) = by h.explicit (said_own hs)
     where
-      by : (b : Bool) → list_all (λ x. same_path x.path w) (said_at w hs) ≡ true → list_all (λ x. same_path x.path w) (map (said w) (cond b (h ∷ filter (λ g. g.explicit) hs) (filter (λ g. g.explicit) hs))) ≡ true
-      by true p = and_from (same_path w w) (list_all (λ x. same_path x.path w) (said_at w hs)) ((same_path-Decides w w).1 refl) p
+      by : (b : Bool) → list_all (λ x. same_path x.path w) (said_by_world w hs) ≡ true → list_all (λ x. same_path x.path w) (map (said w) (cond b (h ∷ filter (λ g. g.explicit) hs) (filter (λ g. g.explicit) hs))) ≡ true
+      by true p = and_from (same_path w w) (list_all (λ x. same_path x.path w) (said_by_world w hs)) ((same_path-Decides w w).1 refl) p
       by false p = p
 
   -- what is said is said by an explicit row
-  said_by : (hs : List Held) (x : Stmt) → is_member statement_cmp (said_at w hs) x ≡ true → (h : Held) × (has_row hs h ≡ true) × (h.explicit ≡ true) × (said w h ≡ x)
+  said_by : (hs : List Held) (x : Stmt) → is_member statement_cmp (said_by_world w hs) x ≡ true → (h : Held) × (has_row hs h ≡ true) × (h.explicit ≡ true) × (said w h ≡ x)
   said_by [] x e = absurd (false≢true e)
   said_by (h ∷ hs) x e = by (λ f. let r = said_by hs x f in (r.0, or_right (same_row r.0 h) (has_row hs r.0) r.1, r.2, r.3)) h.explicit refl e
     where
-      by : (is_member statement_cmp (said_at w hs) x ≡ true → (g : Held) × (has_row (h ∷ hs) g ≡ true) × (g.explicit ≡ true) × (said w g ≡ x)) → (b : Bool) → h.explicit ≡ b
+      by : (is_member statement_cmp (said_by_world w hs) x ≡ true → (g : Held) × (has_row (h ∷ hs) g ≡ true) × (g.explicit ≡ true) × (said w g ≡ x)) → (b : Bool) → h.explicit ≡ b
           → is_member statement_cmp (map (said w) (cond b (h ∷ filter (λ g. g.explicit) hs) (filter (λ g. g.explicit) hs))) x ≡ true
           → (g : Held) × (has_row (h ∷ hs) g ≡ true) × (g.explicit ≡ true) × (said w g ≡ x)
       by later false k f = later f
-      by later true k f = elim (or_cases (is_eq (statement_cmp (said w h) x)) (is_member statement_cmp (said_at w hs) x) f) [
+      by later true k f = elim (or_cases (is_eq (statement_cmp (said w h) x)) (is_member statement_cmp (said_by_world w hs) x) f) [
         | inl s ↦ (h, or_left (same_row h h) (has_row hs h) (same_row_from h h refl refl refl), k, statement_exact.exact (said w h) x (is_eq-Equal (statement_cmp (said w h) x) s))
         | inr s ↦ later s
       ]
 
   -- what an explicit row says is said
-  said_there : (hs : List Held) (x : Stmt) (g : Held) → has_row hs g ≡ true → g.explicit ≡ true → said w g ≡ x → is_member statement_cmp (said_at w hs) x ≡ true
+  said_there : (hs : List Held) (x : Stmt) (g : Held) → has_row hs g ≡ true → g.explicit ≡ true → said w g ≡ x → is_member statement_cmp (said_by_world w hs) x ≡ true
   said_there [] x g e f is = absurd (false≢true e)
   said_there (h ∷ hs) x g e f is = elim (or_cases (same_row g h) (has_row hs g) e) [
     | inl s ↦
@@ -99,11 +99,11 @@ module _ (w : List ℕ) where
       same_said a b p q = ap (λ u. made a.sign u) p ∙ ap (λ s. made s b.tuple) q
 
       here : (b : Bool) → b ≡ true → is_eq (statement_cmp (said w h) x) ≡ true → is_member statement_cmp (map (said w) (cond b (h ∷ filter (λ g. g.explicit) hs) (filter (λ g. g.explicit) hs))) x ≡ true
-      here true k p = or_left (is_eq (statement_cmp (said w h) x)) (is_member statement_cmp (said_at w hs) x) p
+      here true k p = or_left (is_eq (statement_cmp (said w h) x)) (is_member statement_cmp (said_by_world w hs) x) p
       here false k p = absurd (false≢true k)
 
-      later : (b : Bool) → is_member statement_cmp (said_at w hs) x ≡ true → is_member statement_cmp (map (said w) (cond b (h ∷ filter (λ g. g.explicit) hs) (filter (λ g. g.explicit) hs))) x ≡ true
-      later true p = or_right (is_eq (statement_cmp (said w h) x)) (is_member statement_cmp (said_at w hs) x) p
+      later : (b : Bool) → is_member statement_cmp (said_by_world w hs) x ≡ true → is_member statement_cmp (map (said w) (cond b (h ∷ filter (λ g. g.explicit) hs) (filter (λ g. g.explicit) hs))) x ≡ true
+      later true p = or_right (is_eq (statement_cmp (said w h) x)) (is_member statement_cmp (said_by_world w hs) x) p
       later false p = p
 
 -- ---- lists of statements path by path
@@ -142,14 +142,14 @@ module _ (keys : ℕ → ℕ) (stmts : List Stmt) (uid : ℕ) (consistent : IsCo
   at_ascends : (w : List ℕ) → ascending statement_cmp (at w) ≡ true
   at_ascends w = by (names_user uid w) (said_ascend w (world_of keys stmts w) (tuples_stand_once keys stmts consistent w))
     where
-      by : (b : Bool) → ascending statement_cmp (said_at w (world_of keys stmts w)) ≡ true → ascending statement_cmp (cond b (said_at w (world_of keys stmts w)) []) ≡ true
+      by : (b : Bool) → ascending statement_cmp (said_by_world w (world_of keys stmts w)) ≡ true → ascending statement_cmp (cond b (said_by_world w (world_of keys stmts w)) []) ≡ true
       by true p = p
       by false p = refl
 
   at_own : (w : List ℕ) → list_all (λ x. same_path x.path w) (at w) ≡ true
   at_own w = by (names_user uid w) (said_own w (world_of keys stmts w))
     where
-      by : (b : Bool) → list_all (λ x. same_path x.path w) (said_at w (world_of keys stmts w)) ≡ true → list_all (λ x. same_path x.path w) (cond b (said_at w (world_of keys stmts w)) []) ≡ true
+      by : (b : Bool) → list_all (λ x. same_path x.path w) (said_by_world w (world_of keys stmts w)) ≡ true → list_all (λ x. same_path x.path w) (cond b (said_by_world w (world_of keys stmts w)) []) ≡ true
       by true p = p
       by false p = refl
 
@@ -157,7 +157,7 @@ module _ (keys : ℕ → ℕ) (stmts : List Stmt) (uid : ℕ) (consistent : IsCo
   at_stands : (w : List ℕ) (x : Stmt) → is_member statement_cmp (at w) x ≡ true → (stands stmts x && names_user uid x.path) ≡ true
   at_stands w x e = by (names_user uid w) refl e
     where
-      by : (b : Bool) → names_user uid w ≡ b → is_member statement_cmp (cond b (said_at w (world_of keys stmts w)) []) x ≡ true → (stands stmts x && names_user uid x.path) ≡ true
+      by : (b : Bool) → names_user uid w ≡ b → is_member statement_cmp (cond b (said_by_world w (world_of keys stmts w)) []) x ≡ true → (stands stmts x && names_user uid x.path) ≡ true
       by false n f = absurd (false≢true f)
       by true n f =
           let h = said_by w (world_of keys stmts w) x f in
@@ -176,7 +176,7 @@ module _ (keys : ℕ → ℕ) (stmts : List Stmt) (uid : ℕ) (consistent : IsCo
       at_path : List ℕ → Stmt
       at_path v = record { path = v; sign = x.sign; tuple = x.tuple }
 
-      by : (b : Bool) → b ≡ true → is_member statement_cmp (said_at w (world_of keys stmts w)) x ≡ true → is_member statement_cmp (cond b (said_at w (world_of keys stmts w)) []) x ≡ true
+      by : (b : Bool) → b ≡ true → is_member statement_cmp (said_by_world w (world_of keys stmts w)) x ≡ true → is_member statement_cmp (cond b (said_by_world w (world_of keys stmts w)) []) x ≡ true
       by true k f = f
       by false k f = absurd (false≢true k)
 

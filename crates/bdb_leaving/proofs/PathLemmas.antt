@@ -35,7 +35,7 @@ use Rattle.bdb_names.specs.declared.named.NamedWorld.{NamedWorld}
 use Rattle.bdb_stored.proofs.CountingLemmas.{numbers_of, one_path, paths_are_states, wids_named, wids_once}
 use Rattle.bdb_stored.proofs.ItemLemmas.{AreApart, items_apart, items_cons}
 use Rattle.bdb_stored.proofs.KeyLemmas.{rows_are_items}
-use Rattle.bdb_leaving.specs.Paths.{AreInOrder, HasPath, HavePaths, IsDeep, is_before, path_lengths}
+use Rattle.bdb_leaving.specs.Paths.{AreInOrder, HasPath, HavePaths, IsDeep, path_lengths, world_is_before}
 
 -- ---- items in order, none of which comes twice, ascend
 
@@ -183,7 +183,7 @@ module _ (t : Tables) (b : Contents) (v : StoresValid t b) where
           let n = length-map ordered (λ (x : NamedWorld). x.path) in
           ap (λ w. is_lt (path_cmp w (get_or (paths ordered) i d))) (path_at ordered j d)
           ∙ ap (λ w. is_lt (path_cmp (get_or ordered j (nameless d)).path w)) (path_at ordered i d)
-          ∙ sorted_far is_before (ranks_by path_exact.total (λ (x : NamedWorld). x.path)) ordered o.sorted i j (nameless d) le (omega arith)
+          ∙ sorted_far world_is_before (ranks_by path_exact.total (λ (x : NamedWorld). x.path)) ordered o.sorted i j (nameless d) le (omega arith)
 
       -- the paths in order are the states
       paths_in_order : paths ordered ≡ states_of b.stmts

@@ -18,7 +18,7 @@ use Rattle.bdb_stored.specs.Worlds.{TellsStates}
 use Rattle.bdb_names.specs.declared.named.NamedWorld.{NamedWorld}
 use Rattle.bdb_stored.proofs.LinkLemmas.{flat_more}
 use Rattle.bdb_stored.proofs.PlaceLemmas.{at_place}
-use Rattle.bdb_leaving.specs.Naming.{AppendsNaming, naming_at, said, said_at}
+use Rattle.bdb_leaving.specs.Naming.{AppendsNaming, naming_at, said, said_by_world}
 use Rattle.bdb_leaving.proofs.NamingLemmas.{gathered_are_named}
 
 -- ---- rows of one world
@@ -33,30 +33,30 @@ filter_push (g ∷ hs) h = by g.explicit (filter_push hs h)
     by false e = e
 
 module _ (w : List ℕ) (hs : List Held) (h : Held) where
-  said_push : said_at w (hs ++ h ∷ []) ≡ said_at w hs ++ map (said w) (cond h.explicit (h ∷ []) [])
+  said_push : said_by_world w (hs ++ h ∷ []) ≡ said_by_world w hs ++ map (said w) (cond h.explicit (h ∷ []) [])
   said_push = ap (map (said w)) (filter_push hs h) ∙ map-append (said w) (filter (λ g. g.explicit) hs) (cond h.explicit (h ∷ []) [])
 
   -- an explicit row more, and one that isn't
-  pub said_more : h.explicit ≡ true → said_at w (hs ++ h ∷ []) ≡ said_at w hs ++ said w h ∷ []
-  said_more e = said_push ∙ ap (λ b. said_at w hs ++ map (said w) (cond b (h ∷ []) [])) e
+  pub said_more : h.explicit ≡ true → said_by_world w (hs ++ h ∷ []) ≡ said_by_world w hs ++ said w h ∷ []
+  said_more e = said_push ∙ ap (λ b. said_by_world w hs ++ map (said w) (cond b (h ∷ []) [])) e
 
-  pub said_still : h.explicit ≡ false → said_at w (hs ++ h ∷ []) ≡ said_at w hs
-  said_still e = said_push ∙ ap (λ b. said_at w hs ++ map (said w) (cond b (h ∷ []) [])) e ∙ append-nil (said_at w hs)
+  pub said_still : h.explicit ≡ false → said_by_world w (hs ++ h ∷ []) ≡ said_by_world w hs
+  said_still e = said_push ∙ ap (λ b. said_by_world w hs ++ map (said w) (cond b (h ∷ []) [])) e ∙ append-nil (said_by_world w hs)
 
 -- ---- one world
 
 module _ (t : Tables) (uid : ℕ) (x : NamedWorld) (now next : List Stmt) where
   pub appends_none : names_user uid x.path ≡ false → next ≡ now → AppendsNaming t uid x now next
   appends_none other same b v state =
-      same ∙ sym (append-nil now) ∙ ap (λ ys. now ++ ys) (sym (cond-false (names_user uid x.path) (said_at x.path (world_of (key_lengths b.catalog.rels) b.stmts x.path)) [] other))
+      same ∙ sym (append-nil now) ∙ ap (λ ys. now ++ ys) (sym (cond-false (names_user uid x.path) (said_by_world x.path (world_of (key_lengths b.catalog.rels) b.stmts x.path)) [] other))
 
-  pub appends_said : (rows : List Held) → names_user uid x.path ≡ true → AreRowsAt t x.wid rows → next ≡ now ++ said_at x.path rows → AppendsNaming t uid x now next
+  pub appends_said : (rows : List Held) → names_user uid x.path ≡ true → AreRowsAt t x.wid rows → next ≡ now ++ said_by_world x.path rows → AppendsNaming t uid x now next
   appends_said rows named read made b v state =
       let s = v.stored.stored in
       let world = world_of (key_lengths b.catalog.rels) b.stmts x.path in
       let is : rows ≡ world =
       read (key_lengths b.catalog.rels) b.stmts v.stored.names v.stored.tuples x.path (lengths_fit t b.catalog.rels s.rels) (valid_is_consistent b.catalog b.stmts v.valid) s.states.names s.tuples s.rows state in
-      made ∙ ap (λ hs. now ++ said_at x.path hs) is ∙ ap (λ ys. now ++ ys) (sym (cond-true (names_user uid x.path) (said_at x.path world) [] named))
+      made ∙ ap (λ hs. now ++ said_by_world x.path hs) is ∙ ap (λ ys. now ++ ys) (sym (cond-true (names_user uid x.path) (said_by_world x.path world) [] named))
 
 -- ---- all worlds
 

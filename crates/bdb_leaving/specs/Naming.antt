@@ -17,12 +17,12 @@ abbrev pub said : List ℕ → Held → Stmt
 said w h = record { path = w; sign = h.sign; tuple = h.tuple }
 
 -- the statements that the explicit rows of a path's world say
-abbrev pub said_at : List ℕ → List Held → List Stmt
-said_at w rows = map (said w) (filter (λ h. h.explicit) rows)
+abbrev pub said_by_world : List ℕ → List Held → List Stmt
+said_by_world w rows = map (said w) (filter (λ h. h.explicit) rows)
 
 -- what the explicit rows of a path's world say where the path names a user; nothing where it doesn't
 abbrev pub naming_at : (ℕ → ℕ) → List Stmt → ℕ → List ℕ → List Stmt
-naming_at keys stmts uid w = cond (names_user uid w) (said_at w (world_of keys stmts w)) []
+naming_at keys stmts uid w = cond (names_user uid w) (said_by_world w (world_of keys stmts w)) []
 
 -- whichever valid base the tables store of which this is a state: what its rows say was appended, where its path names the user
 abbrev pub AppendsNaming : Tables → ℕ → NamedWorld → List Stmt → List Stmt → Type 0

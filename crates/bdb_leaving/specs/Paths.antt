@@ -42,10 +42,10 @@ abbrev pub path_lengths : List NamedWorld → ℕ
 path_lengths worlds = sum_by (λ x. length x.path) worlds
 
 -- a world's path comes before that of another
-abbrev pub is_before : NamedWorld → NamedWorld → Bool
-is_before x y = is_lt (path_cmp x.path y.path)
+abbrev pub world_is_before : NamedWorld → NamedWorld → Bool
+world_is_before x y = is_lt (path_cmp x.path y.path)
 
 -- these are the worlds, and no path comes before the one in front of it
 pub record AreInOrder (worlds ordered : List NamedWorld) : Type 0 where
   pub moved : IsPermutation worlds ordered
-  pub sorted : IsSortedBy is_before ordered
+  pub sorted : IsSortedBy world_is_before ordered

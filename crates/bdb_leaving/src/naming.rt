@@ -1,7 +1,7 @@
 // The statements whose paths name a user, as they are read from tables.
 ghost use Rattle.std.specs.Prelude.{◌≡◌, ◌++◌, IfOk, OnOk};
 ghost use Rattle.bdb_base.specs.Changes.{statements_naming};
-ghost use Rattle.bdb_leaving.specs.Naming.{AppendsNaming, ReadsAt, ReadsNaming, ReadsRows, said_at};
+ghost use Rattle.bdb_leaving.specs.Naming.{AppendsNaming, ReadsAt, ReadsNaming, ReadsRows, said_by_world};
 ghost use Rattle.bdb_catalog.specs.Bases.{StoresSome};
 ghost use Rattle.bdb_catalog.specs.Opening.{IsPartOf};
 ghost use Rattle.bdb_stored.specs.Worlds.{TellsStates};
@@ -108,7 +108,7 @@ fn push_said(
     path: &Path,
     rows: List<Held>,
 ) -> Result<(), AllocError>
-    ensures { OnOk result (stmts.new ≡ stmts.old ++ said_at path.now rows) }
+    ensures { OnOk result (stmts.new ≡ stmts.old ++ said_by_world path.now rows) }
 {
     for row in rows.into_vec() {
         if !row.explicit {

@@ -14,7 +14,7 @@ use Rattle.std.specs.List.{list_all, list_any}
 use Rattle.std.proofs.lemmas.List.Folds.{list_all-append}
 use Rattle.bdb_lex.specs.Cut.{CutState, start, longer, is_end, shows, next_mode, pieces_from, state_after, ended, next_state, grown, is_short}
 use Rattle.bdb_lex.specs.CutLaws.{NothingIsNoPiece, PiecesComeInParts, StatesComeInParts, PiecesAreShort}
-use Rattle.bdb_lex.specs.Runs.{state_of, longer_by, Leads, Runs, is_quiet}
+use Rattle.bdb_lex.specs.Runs.{state_of, longer_by, LeadsAlike, Runs, is_quiet}
 use Rattle.bdb_lex.specs.declared.run.Run.{Run}
 use Rattle.bdb_lex.specs.declared.mode.Mode.TheVariants.{Plain, Dash, Quoted, Comment}
 
@@ -46,7 +46,7 @@ longer_by-over a (b ∷ bytes) fits over = elim (cases_lt (length a) 65536) [
 
 -- a byte that ends no piece leads to the grown state
 pub leads_byte : (m : Mode) (p : Piece) (h : Bool) (b : ℕ) (bytes : List ℕ) → is_end m b ≡ false
-    → Leads (state_of m p h) (b ∷ bytes) (state_of (next_mode m b) (longer p b) (h || shows m b)) bytes
+    → LeadsAlike (state_of m p h) (b ∷ bytes) (state_of (next_mode m b) (longer p b) (h || shows m b)) bytes
 leads_byte m p h b bytes e = record { pieces = rw e refl; state = rw e refl }
 
 -- a run with a byte more, and whether it holds something then
@@ -86,7 +86,7 @@ quiet_goes_on Comment b q = refl
 
 -- quiet bytes make the piece longer, and may show something
 leads_quiet : (m : Mode) (p : Piece) (h : Bool) (quiet rest : List ℕ) → list_all (is_quiet m) quiet ≡ true
-    → Leads (state_of m p h) (quiet ++ rest) (state_of m (longer_by p quiet) (h || list_any (shows m) quiet)) rest
+    → LeadsAlike (state_of m p h) (quiet ++ rest) (state_of m (longer_by p quiet) (h || list_any (shows m) quiet)) rest
 leads_quiet m p h [] rest q = rw (or-false h) record { pieces = refl; state = refl }
 leads_quiet m p h (b ∷ quiet) rest q =
     let parts = and_parts (is_quiet m b) (list_all (is_quiet m) quiet) q in

@@ -1,8 +1,11 @@
+-- what the headline is made of, in the order of docs/BELIEVE.md
 pub mod Bytes
 pub mod Cut
-pub mod CutLaws
+pub mod Tokens
 pub mod Reading
-pub mod Runs
+-- what other public promises and laws are made of
+pub mod CutLaws
 pub mod Spans
 pub mod TokenGrammar
-pub mod Tokens
+-- words between crates, and for private loops and lemmas
+pub mod Runs

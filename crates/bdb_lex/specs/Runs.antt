@@ -21,13 +21,13 @@ IsAtEnd mode [] = Unit {0}
 IsAtEnd mode (b ∷ bytes) = is_end mode b ≡ true
 
 -- from one state over these bytes nothing else comes than from the other over the rest
-pub record Leads (s : CutState) (bytes : List ℕ) (now : CutState) (rest : List ℕ) : Type 0 where
+pub record LeadsAlike (s : CutState) (bytes : List ℕ) (now : CutState) (rest : List ℕ) : Type 0 where
   pub pieces : pieces_from s bytes ≡ pieces_from now rest
   pub state : state_after s bytes ≡ state_after now rest
 
 -- from the state over these bytes the run leads on to its end
 abbrev pub Runs : Mode → Bool → List ℕ → Run → Type 0
-Runs mode holds bytes run = (p : Piece) → Leads (state_of mode p holds) bytes
+Runs mode holds bytes run = (p : Piece) → LeadsAlike (state_of mode p holds) bytes
     (state_of run.mode (longer_by p (take run.len bytes)) run.holds) (drop run.len bytes)
 
 -- the byte changes no mode and ends no piece

@@ -5,11 +5,11 @@ use Rattle.bdb_multi.specs.declared.kinds.Event.{Event}
 use Rattle.bdb_multi.specs.declared.kinds.Act.{Act}
 use Rattle.bdb_multi.specs.declared.kinds.Act.TheVariants.{Begun, Queued, Aborted, ErrBegun, ErrNotBegun, ErrBatch, One, Batch}
 use Rattle.bdb_multi.specs.Sessions.{act_after, acts_from}
-use Rattle.bdb_multi.specs.Batches.{Ran, ran_at, run_of, ran_from}
+use Rattle.bdb_multi.specs.Batches.{RanBatch, ran_at, run_of, ran_from}
 use Rattle.bdb_events.specs.declared.read.Read.{Read}
 use Rattle.bdb_many.specs.Many.{Batches, act_next, events_in, reads_of, after_from, after_batches, LeadsAsBatches}
 
-two_parts : {S : Type 0} (m : Batches S) (a b : List Ran) (s : S) → after_batches m s (a ++ b) ≡ after_batches m (after_batches m s a) b
+two_parts : {S : Type 0} (m : Batches S) (a b : List RanBatch) (s : S) → after_batches m s (a ++ b) ≡ after_batches m (after_batches m s a) b
 two_parts m [] b s = refl
 two_parts m (r ∷ a) b s = two_parts m a b (m.next s r.commands)
 

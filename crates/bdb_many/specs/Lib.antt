@@ -1,2 +1,3 @@
-pub mod Many
+-- what the headline is made of, in the order of docs/BELIEVE.md
 pub mod Labels
+pub mod Many

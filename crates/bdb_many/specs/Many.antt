@@ -8,7 +8,7 @@ use Rattle.bdb_multi.specs.declared.kinds.Event.{Event}
 use Rattle.bdb_multi.specs.declared.kinds.Act.{Act}
 use Rattle.bdb_multi.specs.declared.kinds.Act.TheVariants.{Begun, Queued, Aborted, ErrBegun, ErrNotBegun, ErrBatch, One, Batch}
 use Rattle.bdb_multi.specs.Sessions.{Commands, act_after, acts_of}
-use Rattle.bdb_multi.specs.Batches.{Ran, ran_from}
+use Rattle.bdb_multi.specs.Batches.{RanBatch, ran_from}
 use Rattle.bdb_events.specs.declared.read.Read.{Read}
 use Rattle.bdb_events.specs.Pieces.{read_of}
 use Rattle.bdb_many.specs.Labels.{told, labelled}
@@ -106,7 +106,7 @@ abbrev pub many_last : {S : Type 0} → Batches S → S → List ℕ → S
 many_last m s script = after_from m s [] (reads_of script)
 
 -- the state after batches, run one after the other
-abbrev pub after_batches : {S : Type 0} → Batches S → S → List Ran → S
+abbrev pub after_batches : {S : Type 0} → Batches S → S → List RanBatch → S
 after_batches m s [] = s
 after_batches m s (b ∷ batches) = after_batches m (m.next s b.commands) batches
 

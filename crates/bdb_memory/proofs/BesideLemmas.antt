@@ -6,8 +6,8 @@ use Rattle.std.proofs.lemmas.Cmp.{nat_list_cmp_total, tied_itself}
 use mathlib.Core.Bool.{true≢false}
 use Rattle.bdb_keep.specs.Tables.{bytes_cmp}
 use Rattle.bdb_memory.specs.Entries.{Entries, AreAbove, NoneBelow, IsAscending}
-use Rattle.bdb_memory.specs.Blocks.{joined, before, after, HaveEntries, AreSorted, IsBound, IsBlockFor, IsThere, entry_at, StandsAt, IsGap, starts_within}
-use Rattle.bdb_memory.specs.Shelves.{Reaches, BelongsAmong, IsFirstRow}
+use Rattle.bdb_memory.specs.Blocks.{joined, before, after, HaveEntries, AreSorted, IsBoundary, IsBlockFor, IsThere, entry_at, StandsAt, BelongsHere, starts_within}
+use Rattle.bdb_memory.specs.Shelves.{ReachesPlace, BelongsAmong, IsFirstRow}
 use Rattle.bdb_memory.proofs.EntriesLemmas.{AreApart, AreAbove-parts, ascending-parts}
 use Rattle.bdb_keep.proofs.OrderLemmas.{less_le, le_less, le_from_not_lt}
 use Rattle.bdb_memory.proofs.BlocksLemmas.{split, after-here, bound-below, bound-here, bound-behind, within-first, stands-found, gap-found, gap-end}
@@ -18,7 +18,7 @@ starts-from : (q : List ℕ) (xs : Entries) (e : List ℕ × Option (List ℕ)) 
 starts-from q [] e ys a h = h
 starts-from q (x ∷ xs) e ys a h = ap is_le (less_le x.0 e.0 q (AreAbove-parts x.0 xs (e ∷ ys) a.0).1.0 h)
 
-reaches-from : (q : List ℕ) (xs : Entries) (e : List ℕ × Option (List ℕ)) (ys : Entries) → IsTrue (is_le (bytes_cmp q e.0)) → Reaches q (xs ++ e ∷ ys)
+reaches-from : (q : List ℕ) (xs : Entries) (e : List ℕ × Option (List ℕ)) (ys : Entries) → IsTrue (is_le (bytes_cmp q e.0)) → ReachesPlace q (xs ++ e ∷ ys)
 reaches-from q [] e ys h = inl h
 reaches-from q (x ∷ xs) e ys h = inr (reaches-from q xs e ys h)
 
@@ -30,9 +30,9 @@ starts-here bs q i j s t h =
     let e = here-parts bs i j t in
     subst (λ es. starts_within q es ≡ true) (sym e) (starts-from q (before bs i j) (entry_at (get_or bs i []) j) (after bs i (suc j)) (subst IsAscending e s.ascends) h)
 
-reaches-here : (bs : List Entries) (q : List ℕ) (i j : ℕ) → IsThere bs i j → is_lt (bytes_cmp (entry_at (get_or bs i []) j).0 q) ≡ false → Reaches q (joined bs)
+reaches-here : (bs : List Entries) (q : List ℕ) (i j : ℕ) → IsThere bs i j → is_lt (bytes_cmp (entry_at (get_or bs i []) j).0 q) ≡ false → ReachesPlace q (joined bs)
 reaches-here bs q i j t h =
-    subst (Reaches q) (sym (here-parts bs i j t)) (reaches-from q (before bs i j) (entry_at (get_or bs i []) j) (after bs i (suc j)) (le_from_not_lt (entry_at (get_or bs i []) j).0 q h))
+    subst (ReachesPlace q) (sym (here-parts bs i j t)) (reaches-from q (before bs i j) (entry_at (get_or bs i []) j) (after bs i (suc j)) (le_from_not_lt (entry_at (get_or bs i []) j).0 q h))
 
 -- ---- what is found beside a spot
 pub belongs-here : (bs : List Entries) (q : List ℕ) (last : Bool) (i j : ℕ) → AreSorted bs → IsThere bs i j → bytes_cmp (entry_at (get_or bs i []) j).0 q ≡ Equal → BelongsAmong (joined bs) q last
@@ -46,14 +46,14 @@ pub belongs-between : (bs : List Entries) (q : List ℕ) (last : Bool) (i j k l 
 belongs-between bs q last i j k l s t h u g = record { starts = starts-here bs q i j s t (ap is_le h); ends = λ _. reaches-here bs q k l u (ap is_lt g) }
 
 pub gap-between : (bs : List Entries) (q : List ℕ) (i j m k l : ℕ) → AreSorted bs → IsThere bs i j → bytes_cmp (entry_at (get_or bs i []) j).0 q ≡ Less → m ≡ suc j → IsThere bs k l → after bs k l ≡ after bs i m
-    → bytes_cmp (entry_at (get_or bs k []) l).0 q ≡ Greater → IsGap bs q i m
+    → bytes_cmp (entry_at (get_or bs k []) l).0 q ≡ Greater → BelongsHere bs q i m
 gap-between bs q i j m k l s t h e u a g =
     gap-found bs q i m k l s (bound-behind bs q i j m s t h e (within-first bs q i m k l s u a (ap is_lt g))) u a (ap is_eq g)
 
 pub belongs-last : (bs : List Entries) (q : List ℕ) (last : Bool) (i j : ℕ) → AreSorted bs → IsThere bs i j → bytes_cmp (entry_at (get_or bs i []) j).0 q ≡ Less → last ≡ true → BelongsAmong (joined bs) q last
 belongs-last bs q last i j s t h e = record { starts = starts-here bs q i j s t (ap is_le h); ends = λ n. absurd (true≢false (sym e ∙ n)) }
 
-pub gap-last : (bs : List Entries) (q : List ℕ) (i j m : ℕ) → AreSorted bs → IsThere bs i j → bytes_cmp (entry_at (get_or bs i []) j).0 q ≡ Less → m ≡ suc j → after bs i m ≡ [] → IsGap bs q i m
+pub gap-last : (bs : List Entries) (q : List ℕ) (i j m : ℕ) → AreSorted bs → IsThere bs i j → bytes_cmp (entry_at (get_or bs i []) j).0 q ≡ Less → m ≡ suc j → after bs i m ≡ [] → BelongsHere bs q i m
 gap-last bs q i j m s t h e n = gap-end bs q i m (bound-behind bs q i j m s t h e (subst (NoneBelow q) (sym n) tt)) n
 
 -- ---- where the first place stands that isn't below
@@ -61,10 +61,10 @@ none-below-above : (q : List ℕ) (es : Entries) → AreAbove q es → NoneBelow
 none-below-above q [] a = tt
 none-below-above q (e ∷ es) a = (ap is_le a.0, none-below-above q es a.1)
 
-pub bound-gap : (bs : List Entries) (q : List ℕ) (i j : ℕ) → IsGap bs q i j → IsBound bs q i j
+pub bound-gap : (bs : List Entries) (q : List ℕ) (i j : ℕ) → BelongsHere bs q i j → IsBoundary bs q i j
 bound-gap bs q i j g = record { below = g.below; above = none-below-above q (after bs i j) g.above; block = g.block; index = g.index }
 
-pub bound-stands : (bs : List Entries) (q : List ℕ) (i j : ℕ) → AreSorted bs → StandsAt bs q i j → IsBound bs q i j
+pub bound-stands : (bs : List Entries) (q : List ℕ) (i j : ℕ) → AreSorted bs → StandsAt bs q i j → IsBoundary bs q i j
 bound-stands bs q i j s h =
     let k = h.there.index in
     record {
@@ -75,13 +75,13 @@ bound-stands bs q i j s h =
     }
 
 -- ---- the shelf where a place belongs
-next-less : (q : List ℕ) (xs : Entries) (e : List ℕ × Option (List ℕ)) (ys : Entries) → AreApart xs (e ∷ ys) → Reaches q xs → bytes_cmp q e.0 ≡ Less
+next-less : (q : List ℕ) (xs : Entries) (e : List ℕ × Option (List ℕ)) (ys : Entries) → AreApart xs (e ∷ ys) → ReachesPlace q xs → bytes_cmp q e.0 ≡ Less
 next-less q [] e ys a r = absurd r
 next-less q (x ∷ xs) e ys a (inl h) = le_less q x.0 e.0 h a.0.0
 next-less q (x ∷ xs) e ys a (inr r) = next-less q xs e ys a.1 r
 
 -- the next shelf starts above what a shelf reaches
-next-above : (q : List ℕ) (bs : List Entries) (i : ℕ) → IsAscending (joined bs) → HaveEntries bs → suc i < length bs → Reaches q (get_or bs i []) → starts_within q (get_or bs (suc i) []) ≡ false
+next-above : (q : List ℕ) (bs : List Entries) (i : ℕ) → IsAscending (joined bs) → HaveEntries bs → suc i < length bs → ReachesPlace q (get_or bs i []) → starts_within q (get_or bs (suc i) []) ≡ false
 next-above q [] i a f h r = absurd (omega arith)
 next-above q (c ∷ bs) zero a f h r = first bs (ascending-parts c (joined bs) a).2 f.1 h
   where
@@ -94,7 +94,7 @@ next-above q (c ∷ bs) (suc i) a f h r = next-above q bs i (ascending-parts c (
 pub shelf-belongs : (bs : List Entries) (q : List ℕ) (i : ℕ) (last : Bool) → AreSorted bs → i < length bs → BelongsAmong (get_or bs i []) q last → (last ≡ true → length bs ≤ suc i) → IsBlockFor bs q i
 shelf-belongs bs q i last s h b e = record { block = h; starts = λ _. b.starts; ends = ends last e b.ends }
   where
-    ends : (last : Bool) → (last ≡ true → length bs ≤ suc i) → (last ≡ false → Reaches q (get_or bs i [])) → suc i < length bs → starts_within q (get_or bs (suc i) []) ≡ false
+    ends : (last : Bool) → (last ≡ true → length bs ≤ suc i) → (last ≡ false → ReachesPlace q (get_or bs i [])) → suc i < length bs → starts_within q (get_or bs (suc i) []) ≡ false
     ends true e r l = absurd (let n = e refl in omega arith)
     ends false e r l = next-above q bs i s.ascends s.full l (r refl)
 

@@ -7,7 +7,7 @@ use Rattle.std.specs.Ordering.{is_le, is_lt, is_eq}
 use Rattle.std.proofs.lemmas.Cmp.{nat_list_cmp_total, eq_by_cmp_equiv}
 use Rattle.bdb_keep.specs.Tables.{bytes_cmp}
 use Rattle.bdb_memory.specs.Entries.{Entries, place_at, AreBelow, AreAbove, NoneBelow, IsAscending}
-use Rattle.bdb_memory.specs.Blocks.{joined, before, after, HasEntry, HaveEntries, AreSorted, IsBound, IsThere, entry_at, StandsAt, IsGap, starts_within, without_empty, has_any, cut}
+use Rattle.bdb_memory.specs.Blocks.{joined, before, after, HasEntry, HaveEntries, AreSorted, IsBoundary, IsThere, entry_at, StandsAt, BelongsHere, starts_within, without_empty, has_any, cut}
 use lib.Seq.{set_split, drop-append-le}
 use Rattle.std.proofs.lemmas.List.Edits.{length-remove}
 use Rattle.bdb_base.proofs.SetLemmas.{is_lt-Less}
@@ -135,7 +135,7 @@ joined-stands bs q i j h = split bs i j ∙ ap (λ x. before bs i j ++ x) (after
 pub place_at-stands : (bs : List Entries) (q : List ℕ) (i j : ℕ) → StandsAt bs q i j → place_at (joined bs) q ≡ Some (entry_at (get_or bs i []) j).1
 place_at-stands bs q i j h = ap (λ es. place_at es q) (joined-stands bs q i j h) ∙ place_at-here q (entry_at (get_or bs i []) j).1 (before bs i j) (after bs i (suc j)) h.below
 
-pub place_at-gap : (bs : List Entries) (q : List ℕ) (i j : ℕ) → IsGap bs q i j → place_at (joined bs) q ≡ None
+pub place_at-gap : (bs : List Entries) (q : List ℕ) (i j : ℕ) → BelongsHere bs q i j → place_at (joined bs) q ≡ None
 place_at-gap bs q i j h = ap (λ es. place_at es q) (split bs i j) ∙ place_at-below q (before bs i j) (after bs i j) h.below ∙ place_at-above q (after bs i j) h.above
 
 has_entry : (b : Entries) → 0 < length b → HasEntry b
@@ -170,7 +170,7 @@ pub sorted-after : (bs : List Entries) (i j : ℕ) → AreSorted bs → IsAscend
 sorted-after bs i j s = (ascending-parts (before bs i j) (after bs i j) (subst IsAscending (split bs i j) s.ascends)).1
 
 -- one place more where it belongs
-pub sorted-added : (bs cs : List Entries) (q : List ℕ) (r : Option (List ℕ)) (i j : ℕ) → AreSorted bs → IsGap bs q i j → joined cs ≡ before bs i j ++ (q, r) ∷ after bs i j → HaveEntries cs → AreSorted cs
+pub sorted-added : (bs cs : List Entries) (q : List ℕ) (r : Option (List ℕ)) (i j : ℕ) → AreSorted bs → BelongsHere bs q i j → joined cs ≡ before bs i j ++ (q, r) ∷ after bs i j → HaveEntries cs → AreSorted cs
 sorted-added bs cs q r i j s g e f = record {
   ascends = subst IsAscending (sym e) (ascending-insert (before bs i j) (after bs i j) (q, r) (subst IsAscending (split bs i j) s.ascends) g.below g.above);
   full = f;
@@ -203,7 +203,7 @@ lower-parted q (e ∷ es) a (suc i) zero d l h s = absurd (omega arith)
 lower-parted q (e ∷ es) a (suc i) (suc k) d l h s = lower-parted q es a.1 i k d (omega arith) (omega arith) s
 
 pub bound-searched : (q : List ℕ) (bs : List Entries) (n i j : ℕ) → AreSorted bs → IsPartitionPoint (λ b. starts_within q b ≡ true) (λ b. starts_within q b ≡ false) bs n → i ≡ n - 1 → i < length bs
-    → j ≤ length (get_or bs i []) → AreBelow q (take j (get_or bs i [])) → NoneBelow q (drop j (get_or bs i [])) → IsBound bs q i j
+    → j ≤ length (get_or bs i []) → AreBelow q (take j (get_or bs i [])) → NoneBelow q (drop j (get_or bs i [])) → IsBoundary bs q i j
 bound-searched q bs n i j s point e h k b a = record {
   below = bound-below q bs i j s.ascends s.full h b (λ l. point.0 i [] (omega arith) (omega arith));
   above = bound-above q bs i j s.ascends s.full h a (λ l. point.1 (suc i) [] (omega arith) l);
@@ -211,7 +211,7 @@ bound-searched q bs n i j s point e h k b a = record {
   index = k;
 }
 
-pub bound-none : (q : List ℕ) (bs : List Entries) → length bs ≤ 0 → IsBound bs q 0 0
+pub bound-none : (q : List ℕ) (bs : List Entries) → length bs ≤ 0 → IsBoundary bs q 0 0
 bound-none q [] h = record { below = tt; above = tt; block = λ l. l; index = omega arith }
 bound-none q (b ∷ bs) h = absurd (omega arith)
 
@@ -227,10 +227,10 @@ within-first bs q i j k l s t e n =
     let here = after-here bs k l ([], None) t.block t.index in
     subst (NoneBelow q) (sym here ∙ e) (none_below_from_first q (entry_at (get_or bs k []) l) (after bs k (suc l)) (subst IsAscending here (sorted-after bs k l s)) (le_from_not_lt (entry_at (get_or bs k []) l).0 q n))
 
-pub stands-found : (bs : List Entries) (q : List ℕ) (i j k l : ℕ) → IsBound bs q i j → IsThere bs k l → before bs k l ≡ before bs i j → is_eq (bytes_cmp (entry_at (get_or bs k []) l).0 q) ≡ true → StandsAt bs q k l
+pub stands-found : (bs : List Entries) (q : List ℕ) (i j k l : ℕ) → IsBoundary bs q i j → IsThere bs k l → before bs k l ≡ before bs i j → is_eq (bytes_cmp (entry_at (get_or bs k []) l).0 q) ≡ true → StandsAt bs q k l
 stands-found bs q i j k l b t e h = record { there = t; below = subst (AreBelow q) (sym e) b.below; here = same_place (entry_at (get_or bs k []) l).0 q h }
 
-pub gap-found : (bs : List Entries) (q : List ℕ) (i j k l : ℕ) → AreSorted bs → IsBound bs q i j → IsThere bs k l → after bs k l ≡ after bs i j → is_eq (bytes_cmp (entry_at (get_or bs k []) l).0 q) ≡ false → IsGap bs q i j
+pub gap-found : (bs : List Entries) (q : List ℕ) (i j k l : ℕ) → AreSorted bs → IsBoundary bs q i j → IsThere bs k l → after bs k l ≡ after bs i j → is_eq (bytes_cmp (entry_at (get_or bs k []) l).0 q) ≡ false → BelongsHere bs q i j
 gap-found bs q i j k l s b t e n =
     let here = after-here bs k l ([], None) t.block t.index in
     let p = (entry_at (get_or bs k []) l).0 in
@@ -242,7 +242,7 @@ gap-found bs q i j k l s b t e n =
       index = b.index;
     }
 
-pub gap-end : (bs : List Entries) (q : List ℕ) (i j : ℕ) → IsBound bs q i j → after bs i j ≡ [] → IsGap bs q i j
+pub gap-end : (bs : List Entries) (q : List ℕ) (i j : ℕ) → IsBoundary bs q i j → after bs i j ≡ [] → BelongsHere bs q i j
 gap-end bs q i j b e = record { below = b.below; above = subst (AreAbove q) (sym e) tt; block = b.block; index = b.index }
 
 -- ---- what is known around a spot
@@ -251,7 +251,7 @@ apart-below q [] e ys a h = tt
 apart-below q (x ∷ xs) e ys a h = (ap (bytes_cmp x.0) (sym h) ∙ a.0.0, apart-below q xs e ys a.1 h)
 
 -- the place itself stands here
-pub bound-here : (bs : List Entries) (q : List ℕ) (i j : ℕ) → AreSorted bs → IsThere bs i j → bytes_cmp (entry_at (get_or bs i []) j).0 q ≡ Equal → IsBound bs q i j
+pub bound-here : (bs : List Entries) (q : List ℕ) (i j : ℕ) → AreSorted bs → IsThere bs i j → bytes_cmp (entry_at (get_or bs i []) j).0 q ≡ Equal → IsBoundary bs q i j
 bound-here bs q i j s t h =
     let e = entry_at (get_or bs i []) j in
     let parts = ascending-parts (before bs i j) (e ∷ after bs i (suc j)) (subst IsAscending (split bs i j ∙ ap (λ x. before bs i j ++ x) (after-here bs i j ([], None) t.block t.index)) s.ascends) in
@@ -264,10 +264,10 @@ bound-here bs q i j s t h =
     }
 
 -- the one here is below, and none behind it is
-pub bound-behind : (bs : List Entries) (q : List ℕ) (i j k : ℕ) → AreSorted bs → IsThere bs i j → bytes_cmp (entry_at (get_or bs i []) j).0 q ≡ Less → k ≡ suc j → NoneBelow q (after bs i k) → IsBound bs q i k
+pub bound-behind : (bs : List Entries) (q : List ℕ) (i j k : ℕ) → AreSorted bs → IsThere bs i j → bytes_cmp (entry_at (get_or bs i []) j).0 q ≡ Less → k ≡ suc j → NoneBelow q (after bs i k) → IsBoundary bs q i k
 bound-behind bs q i j k s t h m a =
     let l = t.index in
-    subst (IsBound bs q i) (sym m) (record {
+    subst (IsBoundary bs q i) (sym m) (record {
       below = above-last bs q i (suc j) (before bs i j) (entry_at (get_or bs i []) j) s (before-more bs i j ([], None) t.block t.index) (ap is_lt h);
       above = subst (λ n. NoneBelow q (after bs i n)) m a;
       block = λ _. t.block;
@@ -275,7 +275,7 @@ bound-behind bs q i j k s t h m a =
     })
 
 -- the one here is above, and all before it are below
-pub bound-before : (bs : List Entries) (q : List ℕ) (i j : ℕ) → AreSorted bs → IsThere bs i j → bytes_cmp (entry_at (get_or bs i []) j).0 q ≡ Greater → AreBelow q (before bs i j) → IsBound bs q i j
+pub bound-before : (bs : List Entries) (q : List ℕ) (i j : ℕ) → AreSorted bs → IsThere bs i j → bytes_cmp (entry_at (get_or bs i []) j).0 q ≡ Greater → AreBelow q (before bs i j) → IsBoundary bs q i j
 bound-before bs q i j s t h b =
     let k = t.index in
     record { below = b; above = within-first bs q i j i j s t refl (ap is_lt h); block = λ _. t.block; index = omega arith }

@@ -8,7 +8,7 @@ use Rattle.std.proofs.lemmas.Bool.Decides.{nat_tests}
 use mathlib.Core.Bool.{true≢false}
 use Rattle.bdb_keep.specs.Tables.{bytes_cmp}
 use Rattle.bdb_memory.specs.Entries.{Entries, place_at, row_of, IsSetAt, AreBelow, AreAbove, NoneBelow, IsAscending}
-use Rattle.bdb_memory.specs.Blocks.{joined, before, after, HasEntry, HaveEntries, AreSorted, IsBlockFor, IsThere, entry_at, StandsAt, IsGap, IsRest, starts_within, has_any}
+use Rattle.bdb_memory.specs.Blocks.{joined, before, after, HasEntry, HaveEntries, AreSorted, IsBlockFor, IsThere, entry_at, StandsAt, BelongsHere, IsRest, starts_within, has_any}
 use Rattle.bdb_memory.specs.Shelves.{at_place, IsChangedAt, NoRowFrom, IsFirstRow, IsCutInTwo}
 use Rattle.bdb_keep.proofs.RowsLemmas.{same_place}
 use Rattle.bdb_keep.proofs.OrderLemmas.{less_le, less_from_not_le}
@@ -147,7 +147,7 @@ changed-replaced bs es q i j r s h e =
       above = (subst IsAscending (after-stands bs q i j h) (sorted-after bs i j s)).0;
     })
 
-pub changed-added : (bs : List Entries) (es : Entries) (q : List ℕ) (r : Option (List ℕ)) (i j : ℕ) → IsGap bs q i j → es ≡ before bs i j ++ (q, r) ∷ after bs i j → IsChangedAt (joined bs) es q (place_at (joined bs) q) (Some r)
+pub changed-added : (bs : List Entries) (es : Entries) (q : List ℕ) (r : Option (List ℕ)) (i j : ℕ) → BelongsHere bs q i j → es ≡ before bs i j ++ (q, r) ∷ after bs i j → IsChangedAt (joined bs) es q (place_at (joined bs) q) (Some r)
 changed-added bs es q r i j g e =
     subst (λ w. IsChangedAt (joined bs) es q w (Some r)) (sym (place_at-gap bs q i j g))
     (record { front = before bs i j; back = after bs i j; was = split bs i j; is = e; below = g.below; above = g.above })
@@ -163,7 +163,7 @@ changed-taken bs es q i j s h e =
       above = (subst IsAscending (after-stands bs q i j h) (sorted-after bs i j s)).0;
     })
 
-pub changed-nothing : (bs : List Entries) (q : List ℕ) (i j : ℕ) → IsGap bs q i j → IsChangedAt (joined bs) (joined bs) q (place_at (joined bs) q) None
+pub changed-nothing : (bs : List Entries) (q : List ℕ) (i j : ℕ) → BelongsHere bs q i j → IsChangedAt (joined bs) (joined bs) q (place_at (joined bs) q) None
 changed-nothing bs q i j g =
     subst (λ w. IsChangedAt (joined bs) (joined bs) q w None) (sym (place_at-gap bs q i j g))
     (record { front = before bs i j; back = after bs i j; was = split bs i j; is = split bs i j; below = g.below; above = g.above })

@@ -7,7 +7,7 @@ use Rattle.bdb_keep.specs.Tables.{Tables}
 use Rattle.bdb_memory.specs.Entries.{Entries, row_of, place_at, rows_of, IsSetAt}
 use Rattle.bdb_memory.specs.Blocks.{joined, AreSorted}
 use Rattle.bdb_keep.specs.Marked.{has_word, IsMarkedCount}
-use Rattle.bdb_memory.specs.Tallies.{tallied_table, is_marked_in, one_at, count_among, count_in, is_number, AreCounts, IsTally, AreTallied, Follows, HasRisen, HasFallen}
+use Rattle.bdb_memory.specs.Tallies.{tallied_table, is_marked_in, one_at, count_among, count_in, is_number, AreCounts, IsTally, AreTallied, TallyFollows, HasRisen, HasFallen}
 use Rattle.bdb_keep.specs.declared.keeper.KeyEnd.{KeyEnd}
 use Rattle.bdb_keep.specs.declared.keeper.KeyEnd.TheVariants.{First, Last}
 use Rattle.bdb_memory.specs.declared.tally.Tally.{Tally}
@@ -54,7 +54,7 @@ fallen-counts end es fs p to found xs ys s was is word fallen counts n h =
     there a c one x y count e f z g i j = omega arith
 
 -- ---- tallies
-pub follows-same : (tally : Tally) (p : List ℕ) (was is : Bool) → was ≡ is → Follows tally tally p was is
+pub follows-same : (tally : Tally) (p : List ℕ) (was is : Bool) → was ≡ is → TallyFollows tally tally p was is
 follows-same tally p was is same es fs to s w i t = record {
   first = λ h. same-counts First es fs p to was tally.first.items s w (same ∙ i) (t.first h);
   last = λ h. same-counts Last es fs p to was tally.last.items s w (same ∙ i) (t.last h);
@@ -68,14 +68,14 @@ fresh false true false d e f = absurd (true≢false (sym e ∙ f))
 fresh false true true d e f = (refl, refl, refl)
 
 pub follows-risen : (old new : Tally) (p : List ℕ) (first last : Option ℕ) (b c : Bool) → ((n : ℕ) → n < 2 ^ 32 → has_word First n (drop 1 p) ≡ is_number first n) → ((n : ℕ) → n < 2 ^ 32 → has_word Last n (drop 1 p) ≡ is_number last n)
-    → (b ≡ true → HasRisen first old.first.items new.first.items) → (c ≡ true → HasRisen last old.last.items new.last.items) → new.is_stale ≡ ((old.is_stale || not b) || not c) → Follows old new p false true
+    → (b ≡ true → HasRisen first old.first.items new.first.items) → (c ≡ true → HasRisen last old.last.items new.last.items) → new.is_stale ≡ ((old.is_stale || not b) || not c) → TallyFollows old new p false true
 follows-risen old new p first last b c f l rf rl stale es fs to s w i t = record {
   first = λ h. let was = fresh old.is_stale b c new.is_stale stale h in risen-counts First es fs p to first old.first.items new.first.items s w i f (rf was.1) (t.first was.0);
   last = λ h. let was = fresh old.is_stale b c new.is_stale stale h in risen-counts Last es fs p to last old.last.items new.last.items s w i l (rl was.2) (t.last was.0);
 }
 
 pub follows-fallen : (old new : Tally) (p : List ℕ) (first last : Option ℕ) (b c : Bool) → ((n : ℕ) → n < 2 ^ 32 → has_word First n (drop 1 p) ≡ is_number first n) → ((n : ℕ) → n < 2 ^ 32 → has_word Last n (drop 1 p) ≡ is_number last n)
-    → (b ≡ true → HasFallen first old.first.items new.first.items) → (c ≡ true → HasFallen last old.last.items new.last.items) → new.is_stale ≡ ((old.is_stale || not b) || not c) → Follows old new p true false
+    → (b ≡ true → HasFallen first old.first.items new.first.items) → (c ≡ true → HasFallen last old.last.items new.last.items) → new.is_stale ≡ ((old.is_stale || not b) || not c) → TallyFollows old new p true false
 follows-fallen old new p first last b c f l rf rl stale es fs to s w i t = record {
   first = λ h. let was = fresh old.is_stale b c new.is_stale stale h in fallen-counts First es fs p to first old.first.items new.first.items s w i f (rf was.1) (t.first was.0);
   last = λ h. let was = fresh old.is_stale b c new.is_stale stale h in fallen-counts Last es fs p to last old.last.items new.last.items s w i l (rl was.2) (t.last was.0);
@@ -90,7 +90,7 @@ tally-empty tally f l = record {
 
 -- ---- rows on shelves
 -- after a row, or none, was put at a place
-pub noted : (old new : Tally) (bs cs : List Entries) (p : List ℕ) (before : Option (List ℕ)) (to : Option (Option (List ℕ))) (was is : Bool) → Follows old new p was is → AreTallied bs old → AreSorted cs → IsSetAt (joined bs) (joined cs) p to
+pub noted : (old new : Tally) (bs cs : List Entries) (p : List ℕ) (before : Option (List ℕ)) (to : Option (Option (List ℕ))) (was is : Bool) → TallyFollows old new p was is → AreTallied bs old → AreSorted cs → IsSetAt (joined bs) (joined cs) p to
     → row_of (place_at (joined bs) p) ≡ before → was ≡ is_marked_in tallied_table p before → is ≡ is_marked_in tallied_table p (row_of to) → AreTallied cs new
 noted old new bs cs p before to was is f t a s b w i = record { sorted = a; tallied = f (joined bs) (joined cs) to s (w ∙ ap (is_marked_in tallied_table p) (sym b)) i t.tallied }
 

@@ -15,7 +15,7 @@ use Rattle.bdb_base.specs.SortedSet.{ascending}
 use Rattle.bdb_base.proofs.Numbers.{equal}
 use Rattle.bdb_keep.specs.Tables.{bytes_cmp}
 use Rattle.bdb_memory.specs.Entries.{Entries, row_of, place_at, rows_of, AreBelow, AreAbove, NoneBelow, IsAscending}
-use Rattle.bdb_memory.specs.Blocks.{joined, before, after, AreSorted, IsBound, IsBlockFor}
+use Rattle.bdb_memory.specs.Blocks.{joined, before, after, AreSorted, IsBoundary, IsBlockFor}
 use Rattle.bdb_keep.specs.Spans.{Listed, listed_cmp, AreRowsUnder}
 use Rattle.bdb_memory.specs.Under.{row_under, entries_under, HasPast}
 use Rattle.bdb_memory.proofs.BlocksLemmas.{split, after-start, after-end}
@@ -239,7 +239,7 @@ none-below-parts : (p : List ℕ) (xs ys : Entries) → NoneBelow p (xs ++ ys) �
 none-below-parts p [] ys n = (tt, n)
 none-below-parts p (x ∷ xs) ys n = let more = none-below-parts p xs ys n.1 in ((n.0, more.0), more.1)
 
-pub walked-first : (p : List ℕ) (bs : List Entries) (i j : ℕ) (old : Listed) → IsBound bs p i j → IsWalked p bs i j old old
+pub walked-first : (p : List ℕ) (bs : List Entries) (i j : ℕ) (old : Listed) → IsBoundary bs p i j → IsWalked p bs i j old old
 walked-first p bs i j old b = record {
   rows = sym (ap (λ (l : Listed). old ++ l) (below-under p (before bs i j) b.below) ∙ append-nil old);
   above = b.above;

@@ -5,7 +5,7 @@ use Rattle.std.specs.Ordering.{eq_by_cmp}
 use Rattle.std.specs.FinMap as map
 use Rattle.std.proofs.lemmas.Cmp.{nat_list_cmp_total, eq_by_cmp_equiv}
 use Rattle.bdb_keep.specs.Tables.{IsPlace, Tables, bytes_cmp, set_at}
-use Rattle.bdb_memory.specs.Held.{written}
+use Rattle.bdb_memory.specs.StoreContents.{written}
 use Rattle.bdb_memory.specs.Entries.{Entries}
 use Rattle.bdb_memory.specs.Changes.{places_of, undone, HavePlaces}
 use Rattle.bdb_memory.specs.declared.changes.PlaceChange.{PlaceChange}

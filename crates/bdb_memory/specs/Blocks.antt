@@ -39,7 +39,7 @@ pub record AreSorted (bs : List Entries) : Type 0 where
   pub full : HaveEntries bs
 
 -- the places before this one are below `q`, and the others aren't
-pub record IsBound (bs : List Entries) (q : List ℕ) (i j : ℕ) : Type 0 where
+pub record IsBoundary (bs : List Entries) (q : List ℕ) (i j : ℕ) : Type 0 where
   pub below : AreBelow q (before bs i j)
   pub above : NoneBelow q (after bs i j)
   pub block : 0 < length bs → i < length bs
@@ -77,7 +77,7 @@ pub record StandsAt (bs : List Entries) (q : List ℕ) (i j : ℕ) : Type 0 wher
   pub here : (entry_at (slice_index_or bs i []) j).0 ≡ q
 
 -- a place stands nowhere, and belongs here
-pub record IsGap (bs : List Entries) (q : List ℕ) (i j : ℕ) : Type 0 where
+pub record BelongsHere (bs : List Entries) (q : List ℕ) (i j : ℕ) : Type 0 where
   pub below : AreBelow q (before bs i j)
   pub above : AreAbove q (after bs i j)
   pub block : 0 < length bs → i < length bs

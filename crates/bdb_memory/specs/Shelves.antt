@@ -41,11 +41,11 @@ pub record IsCutInTwo (es front back : Entries) : Type 0 where
   pub back_full : HasEntry back
 
 -- an entry isn't below a place
-abbrev pub Reaches : List ℕ → Entries → Type 0
-Reaches q [] = ⊥
-Reaches q (e ∷ es) = IsTrue (is_le (bytes_cmp q e.0)) ⊎ Reaches q es
+abbrev pub ReachesPlace : List ℕ → Entries → Type 0
+ReachesPlace q [] = ⊥
+ReachesPlace q (e ∷ es) = IsTrue (is_le (bytes_cmp q e.0)) ⊎ ReachesPlace q es
 
 -- a place belongs among some entries: the first one isn't above it, and one of them isn't below it, or they are the last ones
 pub record BelongsAmong (es : Entries) (q : List ℕ) (last : Bool) : Type 0 where
   pub starts : starts_within q es ≡ true
-  pub ends : last ≡ false → Reaches q es
+  pub ends : last ≡ false → ReachesPlace q es

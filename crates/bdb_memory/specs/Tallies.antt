@@ -66,8 +66,8 @@ pub record IsTally (tally : Tally) (t : Tables) : Type 0 where
 
 -- A tally that is right of some entries is followed by one that is right where another row, or none, stands at a place: `was` tells
 -- whether the row before was marked and in the table, and `is` the same of the row after.
-abbrev pub Follows : Tally → Tally → List ℕ → Bool → Bool → Type 0
-Follows old new place was is = (es fs : Entries) (to : Option (Option (List ℕ))) → IsSetAt es fs place to
+abbrev pub TallyFollows : Tally → Tally → List ℕ → Bool → Bool → Type 0
+TallyFollows old new place was is = (es fs : Entries) (to : Option (Option (List ℕ))) → IsSetAt es fs place to
     → was ≡ is_marked_in tallied_table place (row_of (place_at es place)) → is ≡ is_marked_in tallied_table place (row_of to)
     → IsTally old (rows_of es) → IsTally new (rows_of fs)
 

@@ -1,6 +1,6 @@
 // What comes right behind a spot, where rows are put or taken away in the order of their places.
 ghost use Rattle.std.specs.Prelude.{false, IfOk, IfErr, IfSome, OnSome};
-ghost use Rattle.bdb_memory.specs.Blocks.{joined, AreSorted, StandsAt, IsGap};
+ghost use Rattle.bdb_memory.specs.Blocks.{joined, AreSorted, StandsAt, BelongsHere};
 ghost use Rattle.bdb_memory.specs.Shelves.{BelongsAmong};
 
 use crate::block::Block;
@@ -21,7 +21,7 @@ pub fn find_right_behind(
     ensures there { IfSome result
         (λ found. IfOk found (λ at. StandsAt blocks.now probe.now at.0 at.1)) }
     ensures gap { IfSome result
-        (λ found. IfErr found (λ at. IsGap blocks.now probe.now at.0 at.1)) }
+        (λ found. IfErr found (λ at. BelongsHere blocks.now probe.now at.0 at.1)) }
     ensures belongs { OnSome result (BelongsAmong (joined blocks.now) probe.now is_last) }
 {
     match first_at(blocks, spot) {

@@ -2,7 +2,7 @@
 ghost use Rattle.std.specs.Prelude.{◌≡◌, ◌≤◌, ◌∷◌, ◌++◌, [], Some, IfOk, ◌<◌, OnOk, OnErr};
 ghost use Prim.Native.Nat.{suc};
 ghost use Rattle.std.specs.Prelude.{length, slice_index_or, map as map_list};
-ghost use Rattle.bdb_memory.specs.Blocks.{joined, before, after, AreSorted, HaveEntries, IsGap, IsThere, without_empty, cut, entry_at};
+ghost use Rattle.bdb_memory.specs.Blocks.{joined, before, after, AreSorted, HaveEntries, BelongsHere, IsThere, without_empty, cut, entry_at};
 
 use crate::block::{Block, CAPACITY};
 use crate::entry::Entry;
@@ -36,7 +36,7 @@ pub fn add(
     row: &[u8],
 ) -> Result<Spot, AllocError>
     requires sorted { AreSorted blocks.old.items }
-    requires gap { IsGap blocks.old.items probe.now spot.0 spot.1 }
+    requires gap { BelongsHere blocks.old.items probe.now spot.0 spot.1 }
     ensures sorted { AreSorted blocks.new.items }
     ensures ok { OnOk result
         (joined blocks.new.items ≡ before blocks.old.items spot.0 spot.1

@@ -3,7 +3,7 @@ ghost use Rattle.std.specs.Prelude.{◌≡◌, ◌<◌, ◌-◌, ◌^◌, [], tr
 ghost use Rattle.std.specs.declared.cmp.Ordering.TheVariants.{Less, Greater};
 ghost use Rattle.bdb_keep.specs.Tables.{bytes_cmp};
 ghost use Rattle.bdb_memory.specs.Entries.{NoneBelow};
-ghost use Rattle.bdb_memory.specs.Blocks.{joined, before, after, entry_at, starts_within, AreSorted, HaveEntries, IsBound, IsThere, StandsAt, IsGap};
+ghost use Rattle.bdb_memory.specs.Blocks.{joined, before, after, entry_at, starts_within, AreSorted, HaveEntries, IsBoundary, IsThere, StandsAt, BelongsHere};
 ghost use Rattle.bdb_memory.specs.Shelves.{NoRowFrom, BelongsAmong};
 
 use crate::block::Block;
@@ -18,7 +18,7 @@ pub type Spot = (usize, usize);
 pub fn find(blocks: &[Block], probe: &Probe<'_>) -> Result<Spot, Spot>
     requires { AreSorted blocks.now }
     ensures there { IfOk result (λ spot. StandsAt blocks.now probe.now spot.0 spot.1) }
-    ensures gap { IfErr result (λ spot. IsGap blocks.now probe.now spot.0 spot.1) }
+    ensures gap { IfErr result (λ spot. BelongsHere blocks.now probe.now spot.0 spot.1) }
 {
     let bound = seek(blocks, probe);
     match first_at(blocks, bound) {
@@ -38,7 +38,7 @@ pub fn find(blocks: &[Block], probe: &Probe<'_>) -> Result<Spot, Spot>
 pub fn find_near(blocks: &[Block], near: Spot, probe: &Probe<'_>) -> Result<Spot, Spot>
     requires { AreSorted blocks.now }
     ensures there { IfOk result (λ spot. StandsAt blocks.now probe.now spot.0 spot.1) }
-    ensures gap { IfErr result (λ spot. IsGap blocks.now probe.now spot.0 spot.1) }
+    ensures gap { IfErr result (λ spot. BelongsHere blocks.now probe.now spot.0 spot.1) }
 {
     match find_beside(blocks, near, false, probe) {
         Some(found) => found,
@@ -64,7 +64,7 @@ pub fn find_row(blocks: &[Block], probe: &Probe<'_>) -> Option<Spot>
 #[inline(always)]
 pub fn row_from(blocks: &[Block], start: Spot, probe: &Probe<'_>) -> Option<Spot>
     requires sorted { AreSorted blocks.now }
-    requires bound { IsBound blocks.now probe.now start.0 start.1 }
+    requires bound { IsBoundary blocks.now probe.now start.0 start.1 }
     ensures there { IfSome result (λ spot. IsThere blocks.now spot.0 spot.1) }
     ensures row { IfSome result
         (λ spot. is_some (entry_at (slice_index_or blocks.now spot.0 []) spot.1).1 ≡ true) }
@@ -95,7 +95,7 @@ pub fn find_beside(
     ensures there { IfSome result
         (λ found. IfOk found (λ at. StandsAt blocks.now probe.now at.0 at.1)) }
     ensures gap { IfSome result
-        (λ found. IfErr found (λ at. IsGap blocks.now probe.now at.0 at.1)) }
+        (λ found. IfErr found (λ at. BelongsHere blocks.now probe.now at.0 at.1)) }
     ensures belongs { IfSome result (λ found. BelongsAmong (joined blocks.now) probe.now is_last) }
 {
     match first_at(blocks, spot) {
@@ -123,7 +123,7 @@ fn find_before(
     ensures there { IfSome result
         (λ found. IfOk found (λ at. StandsAt blocks.now probe.now at.0 at.1)) }
     ensures gap { IfSome result
-        (λ found. IfErr found (λ at. IsGap blocks.now probe.now at.0 at.1)) }
+        (λ found. IfErr found (λ at. BelongsHere blocks.now probe.now at.0 at.1)) }
     ensures belongs { IfSome result (λ found. BelongsAmong (joined blocks.now) probe.now is_last) }
 {
     if spot.1 == 0 {
@@ -153,7 +153,7 @@ pub fn find_behind(
     ensures there { IfSome result
         (λ found. IfOk found (λ at. StandsAt blocks.now probe.now at.0 at.1)) }
     ensures gap { IfSome result
-        (λ found. IfErr found (λ at. IsGap blocks.now probe.now at.0 at.1)) }
+        (λ found. IfErr found (λ at. BelongsHere blocks.now probe.now at.0 at.1)) }
     ensures belongs { IfSome result (λ found. BelongsAmong (joined blocks.now) probe.now is_last) }
 {
     let behind = (spot.0, spot.1 + 1);
@@ -172,7 +172,7 @@ pub fn find_behind(
 #[inline(always)]
 pub fn seek(blocks: &[Block], probe: &Probe<'_>) -> Spot
     requires { AreSorted blocks.now }
-    ensures { IsBound blocks.now probe.now result.0 result.1 }
+    ensures { IsBoundary blocks.now probe.now result.0 result.1 }
 {
     let above = blocks.partition_point(
         |block: &Block| -> bool

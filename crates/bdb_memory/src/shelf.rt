@@ -2,7 +2,7 @@
 ghost use Rattle.std.specs.Prelude.{◌≡◌, ◌∷◌, ◌++◌, [], Some, None, IfOk, IfErr, IfSome, IfNone, OnSome, OnOk, OnErr, not, false};
 ghost use Rattle.std.specs.Option.{option_copied};
 ghost use Rattle.bdb_memory.specs.Entries.{place_at, row_of};
-ghost use Rattle.bdb_memory.specs.Blocks.{joined, starts_within, without_empty, has_any, AreSorted, IsBound};
+ghost use Rattle.bdb_memory.specs.Blocks.{joined, starts_within, without_empty, has_any, AreSorted, IsBoundary};
 ghost use Rattle.bdb_memory.specs.Under.{entries_under, HasPast};
 ghost use Rattle.bdb_memory.specs.Shelves.{IsChangedAt, NoRowFrom, IsFirstRow, IsCutInTwo, BelongsAmong};
 
@@ -390,7 +390,7 @@ impl Shelf {
 #[inline(always)]
 fn entry_from<'a>(blocks: &'a [Block], start: Spot, probe: &Probe<'_>) -> Option<(Spot, &'a Entry)>
     requires sorted { AreSorted blocks.now }
-    requires bound { IsBound blocks.now probe.now start.0 start.1 }
+    requires bound { IsBoundary blocks.now probe.now start.0 start.1 }
     ensures { IfSome result (λ first. IsFirstRow (joined blocks.now) probe.now first.1.now) }
 {
     match row_from(blocks, start, probe) {

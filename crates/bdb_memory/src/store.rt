@@ -2,7 +2,7 @@
 ghost use Rattle.std.specs.Prelude.{◌≡◌, ◌≤◌, ◌++◌, ◌∷◌, ◌<◌, [], Some, None, IfOk, OnOk, OnErr, IfSome, MatchBool, IsTrue, ◌↔◌, is_some, false, length, slice_get, if◌then◌else◌};
 ghost use Rattle.std.specs.Option.{option_map};
 ghost use Rattle.std.specs.FinMap as map;
-ghost use Rattle.bdb_memory.specs.Held.{written};
+ghost use Rattle.bdb_memory.specs.StoreContents.{written};
 ghost use Rattle.bdb_keep.specs.Marked.{IsMarkedCount};
 ghost use Rattle.bdb_keep.specs.Spans.{AreRowsUnder, with_rows, without_rows};
 ghost use Rattle.bdb_keep.specs.Tables.{IsLeastFrom, NoneFrom};
@@ -26,11 +26,11 @@ pub struct Store {
 }
 
 impl Model for Store {
-    ghost use Rattle.bdb_memory.specs.Held.{Held, coded_held};
+    ghost use Rattle.bdb_memory.specs.StoreContents.{StoreContents, coded_contents};
 
-    ghost Value = { Held };
+    ghost Value = { StoreContents };
 
-    ghost coded = { coded_held };
+    ghost coded = { coded_contents };
 
     ghost use Rattle.bdb_memory.specs.Entries.{rows_of};
     ghost use Rattle.bdb_memory.specs.Changes.{undone, places_of, HavePlaces};

@@ -2,7 +2,7 @@
 ghost use Rattle.std.specs.Prelude.{◌≡◌, true, false, Bool, not, ◌||◌, IfSome};
 ghost use Rattle.std.specs.FinMap as map;
 ghost use Rattle.bdb_keep.specs.Tables.{Tables};
-ghost use Rattle.bdb_memory.specs.Tallies.{count_in, IsTally, Follows};
+ghost use Rattle.bdb_memory.specs.Tallies.{count_in, IsTally, TallyFollows};
 
 use crate::counts::{BOUND, count_at, lower_at, raise_at};
 use crate::marked::number_in;
@@ -37,7 +37,7 @@ impl Tally {
     /// Takes note that another row, or none, stands at a place, of which this was, or is, marked and in the table.
     #[inline(always)]
     pub fn note(&mut self, probe: &Probe<'_>, was: bool, is: bool)
-        ensures { Follows self.old self.new probe.now was is }
+        ensures { TallyFollows self.old self.new probe.now was is }
     {
         if was != is {
             self.note_change(probe, is);
@@ -46,7 +46,7 @@ impl Tally {
 
     /// Counts that a row came that is marked, or one went.
     fn note_change(&mut self, probe: &Probe<'_>, is: bool)
-        ensures { (was : Bool) → was ≡ not is → Follows self.old self.new probe.now was is }
+        ensures { (was : Bool) → was ≡ not is → TallyFollows self.old self.new probe.now was is }
     {
         if is {
             self.count_one(probe);
@@ -57,7 +57,7 @@ impl Tally {
 
     /// Counts a row that came.
     fn count_one(&mut self, probe: &Probe<'_>)
-        ensures { Follows self.old self.new probe.now false true }
+        ensures { TallyFollows self.old self.new probe.now false true }
     {
         let first = raise_at(&mut self.first, number_in(probe, KeyEnd::First));
         let last = raise_at(&mut self.last, number_in(probe, KeyEnd::Last));
@@ -66,7 +66,7 @@ impl Tally {
 
     /// Counts a row that went.
     fn discount_one(&mut self, probe: &Probe<'_>)
-        ensures { Follows self.old self.new probe.now true false }
+        ensures { TallyFollows self.old self.new probe.now true false }
     {
         let first = lower_at(&mut self.first, number_in(probe, KeyEnd::First));
         let last = lower_at(&mut self.last, number_in(probe, KeyEnd::Last));

@@ -2,7 +2,7 @@
 ghost use Rattle.std.specs.Prelude.{◌≡◌, ◌++◌, false, IfOk, OnOk, IsTrue};
 ghost use Rattle.std.specs.Ordering.{is_le};
 ghost use Rattle.bdb_base.specs.Segments.{is_prefix};
-ghost use Rattle.bdb_memory.specs.Blocks.{joined, AreSorted, IsBound};
+ghost use Rattle.bdb_memory.specs.Blocks.{joined, AreSorted, IsBoundary};
 ghost use Rattle.bdb_keep.specs.Tables.{bytes_cmp};
 ghost use Rattle.bdb_memory.specs.Entries.{IsAscending, NoneBelow};
 ghost use Rattle.bdb_memory.specs.Under.{entries_under, row_under, HasPast};
@@ -23,7 +23,7 @@ pub fn take_blocks(
     span: &mut Span,
 ) -> Result<bool, AllocError>
     requires sorted { AreSorted blocks.now }
-    requires bound { IsBound blocks.now opening.now start.0 start.1 }
+    requires bound { IsBoundary blocks.now opening.now start.0 start.1 }
     ensures rows { OnOk result
         (span.new ≡ span.old ++ entries_under opening.now (joined blocks.now)) }
     ensures past { IfOk result

@@ -33,7 +33,7 @@ use Rattle.bdb_base.proofs.SetLemmas.{filter_keeps_order, is_eq-Equal, is_lt-Les
 use Rattle.bdb_base.proofs.WorldRowsLemmas.{member_of_map, stated_is_member}
 use Rattle.bdb_base.proofs.FindLemmas.{list_any-filter_same}
 use Rattle.bdb_base.proofs.SegmentLemmas.{suffix_itself, length-suffix}
-use Rattle.bdb_model.specs.Ends.{IsFirstAt, WorldsDependOnEnds, is_before}
+use Rattle.bdb_model.specs.Ends.{IsFirstAt, WorldsDependOnEnds, path_is_before}
 use Rattle.bdb_model.proofs.LevelLemmas.{flat_map_same}
 
 -- ---- lists
@@ -102,40 +102,40 @@ lengths_rise x y h = elim (paths_rise x y h) [
     by_length c = grind (arith, nat_tests)
 
 -- once a statement does not come before a path, no later one does
-not_before_stays : (w : List ℕ) (x y : Stmt) → statement_cmp x y ≡ Less → is_before w x ≡ false → is_before w y ≡ false
+not_before_stays : (w : List ℕ) (x y : Stmt) → statement_cmp x y ≡ Less → path_is_before w x ≡ false → path_is_before w y ≡ false
 not_before_stays w x y h e = elim (paths_rise x y h) [
-  | inl k ↦ false_from_ne_true (is_before w y) (λ t. false≢true (sym e ∙ ap is_lt (path_total.trans x.path y.path w k (is_lt-Less (path_cmp y.path w) t))))
+  | inl k ↦ false_from_ne_true (path_is_before w y) (λ t. false≢true (sym e ∙ ap is_lt (path_total.trans x.path y.path w k (is_lt-Less (path_cmp y.path w) t))))
   | inr k ↦ ap (λ v. is_lt (path_cmp v w)) (sym k) ∙ e
 ]
 
 -- a statement is at a path or comes before it
 abbrev is_up_to : List ℕ → Stmt → Bool
-is_up_to w x = is_before w x || same_path x.path w
+is_up_to w x = path_is_before w x || same_path x.path w
 
 not_up_to_stays : (w : List ℕ) (x y : Stmt) → statement_cmp x y ≡ Less → is_up_to w x ≡ false → is_up_to w y ≡ false
 not_up_to_stays w x y h e = elim (paths_rise x y h) [
-  | inl k ↦ false_from_ne_true (is_up_to w y) (λ t. false≢true (sym e ∙ or_left (is_before w x) (same_path x.path w) (ap is_lt (passed k (or_cases (is_before w y) (same_path y.path w) t)))))
+  | inl k ↦ false_from_ne_true (is_up_to w y) (λ t. false≢true (sym e ∙ or_left (path_is_before w x) (same_path x.path w) (ap is_lt (passed k (or_cases (path_is_before w y) (same_path y.path w) t)))))
   | inr k ↦ ap (λ v. is_lt (path_cmp v w) || same_path v w) (sym k) ∙ e
 ]
   where
-    passed : path_cmp x.path y.path ≡ Less → (is_before w y ≡ true) ⊎ (same_path y.path w ≡ true) → path_cmp x.path w ≡ Less
+    passed : path_cmp x.path y.path ≡ Less → (path_is_before w y ≡ true) ⊎ (same_path y.path w ≡ true) → path_cmp x.path w ≡ Less
     passed k (inl t) = path_total.trans x.path y.path w k (is_lt-Less (path_cmp y.path w) t)
     passed k (inr t) = ap (path_cmp x.path) (sym ((same_path-Decides y.path w).0 t)) ∙ k
 
 -- ---- the binary search
 
-pub search_up : (stmts : List Stmt) (w : List ℕ) (y : Stmt) (m : ℕ) → ascending statement_cmp stmts ≡ true → m < length stmts → y ≡ get_or stmts m y → is_before w y ≡ true
-    → list_all (is_before w) (take (m + 1) stmts) ≡ true
-search_up stmts w y m = all_up_to statement_exact (is_before w) (not_before_stays w) stmts y m
+pub search_up : (stmts : List Stmt) (w : List ℕ) (y : Stmt) (m : ℕ) → ascending statement_cmp stmts ≡ true → m < length stmts → y ≡ get_or stmts m y → path_is_before w y ≡ true
+    → list_all (path_is_before w) (take (m + 1) stmts) ≡ true
+search_up stmts w y m = all_up_to statement_exact (path_is_before w) (not_before_stays w) stmts y m
 
-pub search_down : (stmts : List Stmt) (w : List ℕ) (y : Stmt) (m : ℕ) → ascending statement_cmp stmts ≡ true → m < length stmts → y ≡ get_or stmts m y → is_before w y ≡ false
-    → list_all (λ x. not (is_before w x)) (drop m stmts) ≡ true
-search_down stmts w y m = none_from statement_exact (is_before w) (not_before_stays w) stmts y m
+pub search_down : (stmts : List Stmt) (w : List ℕ) (y : Stmt) (m : ℕ) → ascending statement_cmp stmts ≡ true → m < length stmts → y ≡ get_or stmts m y → path_is_before w y ≡ false
+    → list_all (λ x. not (path_is_before w x)) (drop m stmts) ≡ true
+search_down stmts w y m = none_from statement_exact (path_is_before w) (not_before_stays w) stmts y m
 
 -- ---- the statements of a path
 
 -- what comes before a path is not at it
-not_before_itself : (w : List ℕ) (x : Stmt) → is_before w x ≡ true → not (same_path x.path w) ≡ true
+not_before_itself : (w : List ℕ) (x : Stmt) → path_is_before w x ≡ true → not (same_path x.path w) ≡ true
 not_before_itself w x h = by (path_cmp x.path w) (is_eq_path_cmp x.path w) h
   where
     by : (r : Ordering) → is_eq r ≡ same_path x.path w → is_lt r ≡ true → not (same_path x.path w) ≡ true
@@ -152,7 +152,7 @@ from_first stmts rest w at is f =
     q x = same_path x.path w
 
     none : filter q (take at stmts) ≡ []
-    none = filter_none q (take at stmts) (list_all_weaker (is_before w) (λ x. not (q x)) (not_before_itself w) (take at stmts) f.before)
+    none = filter_none q (take at stmts) (list_all_weaker (path_is_before w) (λ x. not (q x)) (not_before_itself w) (take at stmts) f.before)
 
 -- where all from the first place on are at the path, these are all that are
 pub run_is_whole : (stmts rest : List Stmt) (w : List ℕ) (at : ℕ) → rest ≡ drop at stmts → IsFirstAt stmts w at → list_all (λ x. same_path x.path w) rest ≡ true
@@ -173,12 +173,12 @@ run_is_part stmts rest w at n y is h f t l r e =
     rises : ascending statement_cmp rest ≡ true
     rises = ap (ascending statement_cmp) is ∙ drop_ascends statement_cmp at stmts h
 
-    behind : is_before w y ≡ false
-    behind = not-true (is_before w y) (list_all_get (λ x. not (is_before w x)) rest n y (ap (list_all (λ x. not (is_before w x))) is ∙ f.behind) (slice_get_read rest (length rest) n y refl l r))
+    behind : path_is_before w y ≡ false
+    behind = not-true (path_is_before w y) (list_all_get (λ x. not (path_is_before w x)) rest n y (ap (list_all (λ x. not (path_is_before w x))) is ∙ f.behind) (slice_get_read rest (length rest) n y refl l r))
 
     none : filter q (drop n rest) ≡ []
-    none = filter_none q (drop n rest) (list_all_weaker (λ x. not (is_up_to w x)) (λ x. not (q x)) (λ x k. not_right (is_before w x) (q x) k) (drop n rest)
-        (none_from statement_exact (is_up_to w) (not_up_to_stays w) rest y n rises l r (or_from (is_before w y) (q y) behind e)))
+    none = filter_none q (drop n rest) (list_all_weaker (λ x. not (is_up_to w x)) (λ x. not (q x)) (λ x k. not_right (path_is_before w x) (q x) k) (drop n rest)
+        (none_from statement_exact (is_up_to w) (not_up_to_stays w) rest y n rises l r (or_from (path_is_before w y) (q y) behind e)))
 
 -- ---- the statements at the ends of a path
 

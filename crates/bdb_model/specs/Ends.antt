@@ -8,14 +8,14 @@ use Rattle.bdb_base.specs.Segments.{is_suffix}
 use Rattle.bdb_base.specs.WorldRows.{world_of}
 
 -- a statement's path comes before another path
-abbrev pub is_before : List ℕ → Stmt → Bool
-is_before w x = is_lt (path_cmp x.path w)
+abbrev pub path_is_before : List ℕ → Stmt → Bool
+path_is_before w x = is_lt (path_cmp x.path w)
 
 -- before a place each statement's path comes before another path, and from there on none does
 pub record IsFirstAt (stmts : List Stmt) (w : List ℕ) (at : ℕ) : Type 0 where
   pub within : at ≤ length stmts
-  pub before : list_all (is_before w) (take at stmts) ≡ true
-  pub behind : list_all (λ x. not (is_before w x)) (drop at stmts) ≡ true
+  pub before : list_all (path_is_before w) (take at stmts) ≡ true
+  pub behind : list_all (λ x. not (path_is_before w x)) (drop at stmts) ≡ true
 
 -- a world depends on the statements at the path's ends alone
 abbrev pub WorldsDependOnEnds : Type 0

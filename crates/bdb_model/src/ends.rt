@@ -4,7 +4,7 @@ ghost use Rattle.bdb_base.specs.Order.{statement_cmp};
 ghost use Rattle.bdb_base.specs.Same.{same_path};
 ghost use Rattle.bdb_base.specs.Segments.{is_suffix};
 ghost use Rattle.bdb_base.specs.SortedSet.{ascending};
-ghost use Rattle.bdb_model.specs.Ends.{IsFirstAt, WorldsDependOnEnds, is_before};
+ghost use Rattle.bdb_model.specs.Ends.{IsFirstAt, WorldsDependOnEnds, path_is_before};
 
 use crate::beliefs::is_at;
 use bdb_base::{Exact, List, Stmt, cmp_path};
@@ -96,7 +96,7 @@ fn first_at(stmts: &[Stmt], path: &[u32]) -> usize
 }
 
 fn is_before(x: &Stmt, path: &[u32]) -> bool
-    ensures { result ≡ is_before path.now x.now }
+    ensures { result ≡ path_is_before path.now x.now }
 {
     cmp_path(x.path.as_slice(), path) == Ordering::Less
 }

@@ -9,7 +9,7 @@ use Rattle.bdb_multi.specs.declared.kinds.Event.{Event}
 use Rattle.bdb_multi.specs.declared.kinds.Act.{Act}
 use Rattle.bdb_multi.specs.declared.kinds.Act.TheVariants.{Begun, Queued, Aborted, ErrBegun, ErrNotBegun, ErrBatch, One, Batch}
 use Rattle.bdb_multi.specs.Sessions.{Commands, most_queued, mine, open_batch, act_by, act_after, acts_from, acts_of}
-use Rattle.bdb_multi.specs.Batches.{Ran, mine_from, ran_at, closed_by, open_by, batches_in, run_of, ran_from, ascends_from, BatchesAreRun}
+use Rattle.bdb_multi.specs.Batches.{RanBatch, mine_from, ran_at, closed_by, open_by, batches_in, run_of, ran_from, ascends_from, BatchesAreRun}
 use Rattle.bdb_multi.proofs.SessionLemmas.{open_more, none_open, mine_more, mine_same}
 
 -- what an act runs is what the line closes
@@ -70,16 +70,16 @@ own_batches n place before (e ∷ es) =
     ]
 
 -- batches from a later place on
-ascends_later : (low high : ℕ) (rs : List Ran) → low ≤ high → ascends_from high rs ≡ true → ascends_from low rs ≡ true
+ascends_later : (low high : ℕ) (rs : List RanBatch) → low ≤ high → ascends_from high rs ≡ true → ascends_from low rs ≡ true
 ascends_later low high [] le h = refl
 ascends_later low high (r ∷ rs) le h =
     let parts = and_parts (nat_le high r.place) (ascends_from (suc r.place) rs) h in
     and_from (nat_le low r.place) (ascends_from (suc r.place) rs) (le-leb low r.place (omega (arith, le, leb-true high r.place parts.0))) parts.1
 
-one_more : (place n : ℕ) (q : Commands) (rs : List Ran) → ascends_from (suc place) rs ≡ true → ascends_from place (ran_at place n (q ∷ []) ++ rs) ≡ true
+one_more : (place n : ℕ) (q : Commands) (rs : List RanBatch) → ascends_from (suc place) rs ≡ true → ascends_from place (ran_at place n (q ∷ []) ++ rs) ≡ true
 one_more place n q rs h = and_from (nat_le place place) (ascends_from (suc place) rs) (le-leb place place (omega arith)) h
 
-act_ascends : (place n : ℕ) (a : Act) (rs : List Ran) → ascends_from (suc place) rs ≡ true → ascends_from place (ran_at place n (run_of a) ++ rs) ≡ true
+act_ascends : (place n : ℕ) (a : Act) (rs : List RanBatch) → ascends_from (suc place) rs ≡ true → ascends_from place (ran_at place n (run_of a) ++ rs) ≡ true
 act_ascends place n Begun rs h = ascends_later place (suc place) rs (omega arith) h
 act_ascends place n Queued rs h = ascends_later place (suc place) rs (omega arith) h
 act_ascends place n Aborted rs h = ascends_later place (suc place) rs (omega arith) h

@@ -2,17 +2,17 @@
 use Rattle.std.proofs.Common.{◌≡◌, ◌∙◌, ℕ, suc, ◌≤◌, true, false, nat_eq, nat_le, List, [], ◌∷◌, filter, refl, ap, sym, arith, inl, inr}
 use Rattle.std.proofs.lemmas.Bool.{cases_Bool, and_parts, leb-true, eq-eqb, eqb-false, ne_eqb}
 use Rattle.bdb_base.proofs.ListLemmas.{filter_kept_one, filter_dropped_one}
-use Rattle.bdb_multi.specs.Batches.{Ran, ascends_from, BatchesAreOne}
+use Rattle.bdb_multi.specs.Batches.{RanBatch, ascends_from, BatchesAreOne}
 
 -- the batches of a session
-own : ℕ → List Ran → List Ran
+own : ℕ → List RanBatch → List RanBatch
 own n rs = filter (λ r. nat_eq r.session n) rs
 
-kept : (n : ℕ) (r : Ran) (rs : List Ran) → nat_eq r.session n ≡ true → own n (r ∷ rs) ≡ r ∷ own n rs
+kept : (n : ℕ) (r : RanBatch) (rs : List RanBatch) → nat_eq r.session n ≡ true → own n (r ∷ rs) ≡ r ∷ own n rs
 unfolding own
 kept n r rs h = filter_kept_one (λ r. nat_eq r.session n) r rs h
 
-left_out : (n : ℕ) (r : Ran) (rs : List Ran) → nat_eq r.session n ≡ false → own n (r ∷ rs) ≡ own n rs
+left_out : (n : ℕ) (r : RanBatch) (rs : List RanBatch) → nat_eq r.session n ≡ false → own n (r ∷ rs) ≡ own n rs
 unfolding own
 left_out n r rs h = filter_dropped_one (λ r. nat_eq r.session n) r rs h
 
@@ -20,20 +20,20 @@ none_own : (n : ℕ) → own n [] ≡ []
 unfolding own
 none_own n = refl
 
-itself : (r : Ran) → nat_eq r.session r.session ≡ true
+itself : (r : RanBatch) → nat_eq r.session r.session ≡ true
 itself r = eq-eqb r.session r.session refl
 
-not_nil : (r : Ran) (rs : List Ran) → [] ≡ r ∷ rs → ⊥
+not_nil : (r : RanBatch) (rs : List RanBatch) → [] ≡ r ∷ rs → ⊥
 not_nil r rs e = cc
 
-same_first : (x y : Ran) (xs ys : List Ran) → x ∷ xs ≡ y ∷ ys → x ≡ y
+same_first : (x y : RanBatch) (xs ys : List RanBatch) → x ∷ xs ≡ y ∷ ys → x ≡ y
 same_first x y xs ys e = cc
 
-same_rest : (x y : Ran) (xs ys : List Ran) → x ∷ xs ≡ y ∷ ys → xs ≡ ys
+same_rest : (x y : RanBatch) (xs ys : List RanBatch) → x ∷ xs ≡ y ∷ ys → xs ≡ ys
 same_rest x y xs ys e = cc
 
 -- no batch of a session stands before the place from which all do
-first_from : (n low : ℕ) (x : Ran) (xs rs : List Ran) → ascends_from low rs ≡ true → x ∷ xs ≡ own n rs → low ≤ x.place
+first_from : (n low : ℕ) (x : RanBatch) (xs rs : List RanBatch) → ascends_from low rs ≡ true → x ∷ xs ≡ own n rs → low ≤ x.place
 first_from n low x xs [] h e = absurd (not_nil x xs (sym (e ∙ none_own n)))
 first_from n low x xs (r ∷ rs) h e =
     let parts = and_parts (nat_le low r.place) (ascends_from (suc r.place) rs) h in
@@ -44,7 +44,7 @@ first_from n low x xs (r ∷ rs) h e =
     ]
 
 -- what is first in both is the same
-same_firsts : (x y : Ran) (a b : List Ran) → ascends_from (suc x.place) a ≡ true → ascends_from (suc y.place) b ≡ true
+same_firsts : (x y : RanBatch) (a b : List RanBatch) → ascends_from (suc x.place) a ≡ true → ascends_from (suc y.place) b ≡ true
     → ((n : ℕ) → own n (x ∷ a) ≡ own n (y ∷ b)) → x ≡ y
 same_firsts x y a b up_a up_b same = elim (cases_Bool (nat_eq y.session x.session)) [
   | inl k ↦ same_first x y (own x.session a) (own x.session b)
@@ -58,7 +58,7 @@ same_firsts x y a b up_a up_b same = elim (cases_Bool (nat_eq y.session x.sessio
       absurd (omega (arith, below, above))
 ]
 
-same_others : (x y : Ran) (a b : List Ran) → x ≡ y → ((n : ℕ) → own n (x ∷ a) ≡ own n (y ∷ b)) → (n : ℕ) → own n a ≡ own n b
+same_others : (x y : RanBatch) (a b : List RanBatch) → x ≡ y → ((n : ℕ) → own n (x ∷ a) ≡ own n (y ∷ b)) → (n : ℕ) → own n a ≡ own n b
 same_others x y a b e same n = elim (cases_Bool (nat_eq x.session n)) [
   | inl k ↦
       let k' : nat_eq y.session n ≡ true = ap (λ r. nat_eq r.session n) (sym e) ∙ k in
@@ -68,7 +68,7 @@ same_others x y a b e same n = elim (cases_Bool (nat_eq x.session n)) [
       sym (left_out n x a k) ∙ (same n ∙ left_out n y b k')
 ]
 
-one : (low high : ℕ) (a b : List Ran) → ascends_from low a ≡ true → ascends_from high b ≡ true → ((n : ℕ) → own n a ≡ own n b) → a ≡ b
+one : (low high : ℕ) (a b : List RanBatch) → ascends_from low a ≡ true → ascends_from high b ≡ true → ((n : ℕ) → own n a ≡ own n b) → a ≡ b
 one low high [] [] up_a up_b same = refl
 one low high [] (y ∷ b) up_a up_b same =
     absurd (not_nil y (own y.session b) (sym (none_own y.session) ∙ (same y.session ∙ kept y.session y b (itself y))))

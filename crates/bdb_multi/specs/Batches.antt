@@ -37,13 +37,13 @@ mine_from n place [] = []
 mine_from n place (e ∷ es) = if nat_eq e.session n then record { place = place; line = e.line } ∷ mine_from n (suc place) es else mine_from n (suc place) es
 
 -- a batch: its session, the place of the line that closed it, and its commands
-pub record Ran : Type 0 where
+pub record RanBatch : Type 0 where
   pub place : ℕ
   pub session : ℕ
   pub commands : Commands
 
 -- the batches with these commands, of one session at one place
-abbrev pub ran_at : ℕ → ℕ → List Commands → List Ran
+abbrev pub ran_at : ℕ → ℕ → List Commands → List RanBatch
 ran_at place n batches = map (λ q. record { place = place; session = n; commands = q }) batches
 
 -- the batches that a line closes: at a commit the first commands that wait, and each command outside a batch by itself
@@ -69,7 +69,7 @@ open_by (Some q) Abort = None
 open_by (Some q) (Cmd c) = Some (q ++ c ∷ [])
 
 -- the batches that lines of one session close, behind an open batch
-abbrev pub batches_in : ℕ → Option Commands → List Placed → List Ran
+abbrev pub batches_in : ℕ → Option Commands → List Placed → List RanBatch
 batches_in n q [] = []
 batches_in n q (p ∷ ps) = ran_at p.place n (closed_by q p.line) ++ batches_in n (open_by q p.line) ps
 
@@ -85,18 +85,18 @@ run_of (One c) = (c ∷ []) ∷ []
 run_of (Batch q) = q ∷ []
 
 -- the batches that acts run, in order, each at the place of its event
-abbrev pub ran_from : ℕ → List Event → List Act → List Ran
+abbrev pub ran_from : ℕ → List Event → List Act → List RanBatch
 ran_from place [] acts = []
 ran_from place (e ∷ es) [] = []
 ran_from place (e ∷ es) (a ∷ acts) = ran_at place e.session (run_of a) ++ ran_from (suc place) es acts
 
 -- from a place on, no batch stands at the place of another, nor before it
-abbrev pub ascends_from : ℕ → List Ran → Bool
+abbrev pub ascends_from : ℕ → List RanBatch → Bool
 ascends_from low [] = true
 ascends_from low (r ∷ rs) = nat_le low r.place && ascends_from (suc r.place) rs
 
 -- the batches of events: of each session those that its own lines close, and all by the place of the line that closed them
-pub record AreBatches (events : List Event) (batches : List Ran) : Type 0 where
+pub record AreBatches (events : List Event) (batches : List RanBatch) : Type 0 where
   pub own : (n : ℕ) → filter (λ r. nat_eq r.session n) batches ≡ batches_in n None (mine_from n 0 events)
   pub in_order : ascends_from 0 batches ≡ true
 
@@ -106,4 +106,4 @@ BatchesAreRun = (events : List Event) → AreBatches events (ran_from 0 events (
 
 -- events have one list of batches alone
 abbrev pub BatchesAreOne : Type 0
-BatchesAreOne = (events : List Event) (a b : List Ran) → AreBatches events a → AreBatches events b → a ≡ b
+BatchesAreOne = (events : List Event) (a b : List RanBatch) → AreBatches events a → AreBatches events b → a ≡ b

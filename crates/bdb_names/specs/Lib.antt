@@ -1,3 +1,4 @@
+-- words between crates, and for private loops and lemmas
 pub mod Drops
 pub mod Moves
 pub mod Search

@@ -22,7 +22,7 @@ use Rattle.bdb_syntax.specs.Keywords.{is_keyword}
 use Rattle.bdb_parse.specs.declared.stop.Stop.{Stop}
 use Rattle.bdb_parse.specs.declared.stop.Stop.TheVariants as stops
 use Rattle.bdb_parse.specs.declared.wide.Wide.TheVariants.{Refused, Zero}
-use Rattle.bdb_parse.specs.Numbers.{number_of, is_number, is_i64}
+use Rattle.bdb_parse.specs.Numbers.{number_written, is_number, is_i64}
 use Rattle.bdb_parse.specs.Gives.{number_in, narrow}
 use Rattle.bdb_parse.specs.Fits.{value_fits, side_fits, cond_fits, set_fits, query_fits, key_fits, fits}
 use Rattle.bdb_parse.specs.Stops.{cut, parts}
@@ -37,16 +37,16 @@ number_agrees : (b : Bool) (n : ℤ) → Agrees is_i64 (cond b (Some n) None >>=
 number_agrees true n = narrow_agrees n (is_i64 n) refl
 number_agrees false n = neither
 
-pub literal_agrees : (ts : List Token) → Agrees value_fits (literal_of (number_in Refused) ts) (literal_of (number_in Zero) ts) (literal_of number_of ts)
+pub literal_agrees : (ts : List Token) → Agrees value_fits (literal_of (number_in Refused) ts) (literal_of (number_in Zero) ts) (literal_of number_written ts)
 literal_agrees (Text t ∷ []) = fitting (values.Text t) (values.Text t) refl
 literal_agrees (Num s ∷ []) = agrees_map is_i64 value_fits values.Int (λ n. refl) (number_agrees (is_number s) (signed_digits_value 10 s))
 literal_agrees _ = neither
 
-num_agrees : (ts : List Token) → Agrees is_i64 (num_of (number_in Refused) ts) (num_of (number_in Zero) ts) (num_of number_of ts)
+num_agrees : (ts : List Token) → Agrees is_i64 (num_of (number_in Refused) ts) (num_of (number_in Zero) ts) (num_of number_written ts)
 num_agrees (Num s ∷ []) = number_agrees (is_number s) (signed_digits_value 10 s)
 num_agrees _ = neither
 
-key_agrees : (ts : List Token) → Agrees key_fits (key_of (number_in Refused) ts) (key_of (number_in Zero) ts) (key_of number_of ts)
+key_agrees : (ts : List Token) → Agrees key_fits (key_of (number_in Refused) ts) (key_of (number_in Zero) ts) (key_of number_written ts)
 unfolding key_of
 key_agrees [] = fitting None None refl
 key_agrees (t ∷ ts) =
@@ -54,7 +54,7 @@ key_agrees (t ∷ ts) =
     let made : ℤ → Option ℤ = λ n. Some n in
     agrees_map is_i64 key_fits made (λ n. refl) (num_agrees rest))
 
-pub set_agrees : (ts : List Token) → Agrees set_fits (set_of (number_in Refused) ts) (set_of (number_in Zero) ts) (set_of number_of ts)
+pub set_agrees : (ts : List Token) → Agrees set_fits (set_of (number_in Refused) ts) (set_of (number_in Zero) ts) (set_of number_written ts)
 unfolding set_of
 set_agrees ts =
     agrees_behind set_fits (name_at ts) (λ (col : List ℕ × List Token).
@@ -62,14 +62,14 @@ set_agrees ts =
     let made : Value → RawSet = λ v. record { col = col.0; to = v } in
     agrees_last value_fits set_fits made (λ v. refl) (literal_agrees rest)))
 
-pub side_agrees : (column : List Token → Option RawCol) (ts : List Token) → Agrees side_fits (side_of column (number_in Refused) ts) (side_of column (number_in Zero) ts) (side_of column number_of ts)
+pub side_agrees : (column : List Token → Option RawCol) (ts : List Token) → Agrees side_fits (side_of column (number_in Refused) ts) (side_of column (number_in Zero) ts) (side_of column number_written ts)
 unfolding side_of
 side_agrees column ts =
     agrees_cond side_fits (begins_with_word ts)
     (agrees_made side_fits sides.Col (column ts) (λ c. refl))
     (agrees_map value_fits side_fits sides.Lit (λ v. refl) (literal_agrees ts))
 
-pub test_agrees : (ts : List Token) → Agrees cond_fits (test_of (number_in Refused) ts) (test_of (number_in Zero) ts) (test_of number_of ts)
+pub test_agrees : (ts : List Token) → Agrees cond_fits (test_of (number_in Refused) ts) (test_of (number_in Zero) ts) (test_of number_written ts)
 unfolding test_of
 test_agrees ts =
     agrees_behind cond_fits (name_at ts) (λ (left : List ℕ × List Token).
@@ -77,7 +77,7 @@ test_agrees ts =
     let made : RawSide → RawCond = λ right. record { left = bare left.0; cmp = cmp.0; right = right } in
     agrees_last side_fits cond_fits made (λ r. refl) (side_agrees bare_of cmp.1)))
 
-pub cond_agrees : (ts : List Token) → Agrees cond_fits (cond_of (number_in Refused) ts) (cond_of (number_in Zero) ts) (cond_of number_of ts)
+pub cond_agrees : (ts : List Token) → Agrees cond_fits (cond_of (number_in Refused) ts) (cond_of (number_in Zero) ts) (cond_of number_written ts)
 unfolding cond_of
 cond_agrees ts =
     agrees_behind cond_fits (col_at ts) (λ (left : RawCol × List Token).
@@ -104,7 +104,7 @@ create_user_agrees ts =
     agrees_behind fits (text_at ts) (λ (name : List ℕ × List Token).
     agrees_behind fits (end_at name.1) (λ (rest : List Token). fitting (CreateUser name.0) (CreateUser name.0) refl))
 
-create_relation_agrees : (ts : List Token) → Agrees fits (create_relation_of (number_in Refused) ts) (create_relation_of (number_in Zero) ts) (create_relation_of number_of ts)
+create_relation_agrees : (ts : List Token) → Agrees fits (create_relation_of (number_in Refused) ts) (create_relation_of (number_in Zero) ts) (create_relation_of number_written ts)
 unfolding create_relation_of
 create_relation_agrees ts =
     agrees_behind fits (name_at ts) (λ (name : List ℕ × List Token).
@@ -112,7 +112,7 @@ create_relation_agrees ts =
     agrees_behind fits (list_of column_of stops.Comma inside.0) (λ (cols : List ColDef).
     agrees_last key_fits fits (λ key. CreateRelation name.0 cols key) (λ key. refl) (key_agrees inside.1))))
 
-create_agrees : (ts : List Token) → Agrees fits (create_of (number_in Refused) ts) (create_of (number_in Zero) ts) (create_of number_of ts)
+create_agrees : (ts : List Token) → Agrees fits (create_of (number_in Refused) ts) (create_of (number_in Zero) ts) (create_of number_written ts)
 unfolding create_of
 create_agrees ts =
     agrees_behind fits (word_at ts) (λ (word : List ℕ × List Token).
@@ -123,7 +123,7 @@ create_agrees ts =
 abbrev signed_fits : Target × List Value → Bool
 signed_fits signed = list_all value_fits signed.1
 
-signed_agrees : (ts : List Token) → Agrees signed_fits (signed_of (number_in Refused) ts) (signed_of (number_in Zero) ts) (signed_of number_of ts)
+signed_agrees : (ts : List Token) → Agrees signed_fits (signed_of (number_in Refused) ts) (signed_of (number_in Zero) ts) (signed_of number_written ts)
 unfolding signed_of
 signed_agrees ts =
     agrees_behind signed_fits (target_at ts) (λ (target : Target × List Token).
@@ -132,13 +132,13 @@ signed_agrees ts =
     let made : List Value → Target × List Value = λ vals. (target.0, vals) in
     agrees_last (list_all value_fits) signed_fits made (λ vals. refl) (list_agrees value_fits _ _ _ literal_agrees stops.Comma inside))))
 
-insert_agrees : (ts : List Token) → Agrees fits (insert_of (number_in Refused) ts) (insert_of (number_in Zero) ts) (insert_of number_of ts)
+insert_agrees : (ts : List Token) → Agrees fits (insert_of (number_in Refused) ts) (insert_of (number_in Zero) ts) (insert_of number_written ts)
 unfolding insert_of
 insert_agrees ts =
     agrees_behind fits (keyword_at (codes "into") ts) (λ (into : List Token).
     agrees_last signed_fits fits (λ signed. Insert signed.0.users signed.0.sign signed.0.rel signed.1) (λ signed. refl) (signed_agrees into))
 
-delete_agrees : (ts : List Token) → Agrees fits (delete_of (number_in Refused) ts) (delete_of (number_in Zero) ts) (delete_of number_of ts)
+delete_agrees : (ts : List Token) → Agrees fits (delete_of (number_in Refused) ts) (delete_of (number_in Zero) ts) (delete_of number_written ts)
 unfolding delete_of
 delete_agrees ts =
     agrees_behind fits (keyword_at (codes "from") ts) (λ (from : List Token).
@@ -146,7 +146,7 @@ delete_agrees ts =
     agrees_behind fits (end_at (cut stops.Where target.1).0) (λ (rest : List Token).
     agrees_last (list_all cond_fits) fits (λ conds. Delete target.0.users target.0.sign target.0.rel conds) (λ conds. refl) (conds_agrees _ _ _ test_agrees (cut stops.Where target.1).1))))
 
-update_agrees : (ts : List Token) → Agrees fits (update_of (number_in Refused) ts) (update_of (number_in Zero) ts) (update_of number_of ts)
+update_agrees : (ts : List Token) → Agrees fits (update_of (number_in Refused) ts) (update_of (number_in Zero) ts) (update_of number_written ts)
 unfolding update_of
 update_agrees ts =
     agrees_behind fits (target_at ts) (λ (target : Target × List Token).
@@ -155,7 +155,7 @@ update_agrees ts =
     (list_agrees set_fits _ _ _ set_agrees stops.Comma (cut stops.Where rest).0)
     (conds_agrees _ _ _ test_agrees (cut stops.Where rest).1)))
 
-query_agrees : (ts : List Token) → Agrees query_fits (query_of (number_in Refused) ts) (query_of (number_in Zero) ts) (query_of number_of ts)
+query_agrees : (ts : List Token) → Agrees query_fits (query_of (number_in Refused) ts) (query_of (number_in Zero) ts) (query_of number_written ts)
 unfolding query_of
 query_agrees ts =
     agrees_behind query_fits (cut stops.From ts).1 (λ (rest : List Token).
@@ -164,7 +164,7 @@ query_agrees ts =
     let made : List RawCond → RawQuery = λ conds. record { take = take; items = items; conds = conds } in
     agrees_last (list_all cond_fits) query_fits made (λ conds. refl) (conds_agrees _ _ _ cond_agrees (cut stops.Where rest).1))))
 
-explain_agrees : (ts : List Token) → Agrees fits (explain_of (number_in Refused) ts) (explain_of (number_in Zero) ts) (explain_of number_of ts)
+explain_agrees : (ts : List Token) → Agrees fits (explain_of (number_in Refused) ts) (explain_of (number_in Zero) ts) (explain_of number_written ts)
 unfolding explain_of
 explain_agrees ts =
     agrees_behind fits (keyword_at (codes "select") ts) (λ (rest : List Token). agrees_map query_fits fits Explain (λ q. refl) (query_agrees rest))
@@ -181,7 +181,7 @@ show_agrees ts =
     agrees_cond fits (is_keyword (codes "world") word.0) (show_world_agrees word.1)
     (agrees_cond fits (is_keyword (codes "tables") word.0) (agrees_made fits (λ _. ShowTables) (end_at word.1) (λ _. refl)) neither))
 
-why_agrees : (ts : List Token) → Agrees fits (why_of (number_in Refused) ts) (why_of (number_in Zero) ts) (why_of number_of ts)
+why_agrees : (ts : List Token) → Agrees fits (why_of (number_in Refused) ts) (why_of (number_in Zero) ts) (why_of number_written ts)
 unfolding why_of
 why_agrees ts =
     agrees_last signed_fits fits (λ signed. Why signed.0.users signed.0.sign signed.0.rel signed.1) (λ signed. refl) (signed_agrees ts)
@@ -199,7 +199,7 @@ one_word_agrees word ts =
     agrees_cond fits (is_keyword (codes "undo") word) (agrees_made fits (λ _. Undo) (end_at ts) (λ _. refl))
     (agrees_cond fits (is_keyword (codes "redo") word) (agrees_made fits (λ _. Redo) (end_at ts) (λ _. refl)) neither)
 
-after_agrees : (word : List ℕ) (ts : List Token) → Agrees fits (command_after (number_in Refused) word ts) (command_after (number_in Zero) word ts) (command_after number_of word ts)
+after_agrees : (word : List ℕ) (ts : List Token) → Agrees fits (command_after (number_in Refused) word ts) (command_after (number_in Zero) word ts) (command_after number_written word ts)
 unfolding command_after
 after_agrees word ts =
     agrees_cond fits (is_keyword (codes "create") word) (create_agrees ts)

@@ -24,7 +24,7 @@ use Rattle.bdb_syntax.specs.declared.command.RawSide.TheVariants.{Col, Lit}
 use Rattle.bdb_syntax.specs.declared.command.RawWho.{RawWho}
 use Rattle.bdb_syntax.specs.declared.command.RawWho.TheVariants as who
 use Rattle.bdb_syntax.specs.Keywords.{is_keyword, is_reserved, reserved}
-use Rattle.bdb_syntax.specs.Printable.{IsName, IsBareCol, IsFullCol, IsPrintableWho, IsPrintableItem}
+use Rattle.bdb_syntax.specs.Printable.{IsNameWord, IsBareColumn, IsFullColumn, IsPrintableWho, IsPrintableItem}
 use Rattle.bdb_parse.specs.declared.stop.Stop.{Stop}
 use Rattle.bdb_parse.specs.declared.stop.Stop.TheVariants as stops
 use Rattle.bdb_parse.specs.Stops.{is_stop}
@@ -42,7 +42,7 @@ none_at p (suc n) (y ∷ xs) x e h = none_at p n xs x e (or_parts (p y) (list_an
 pub no_keyword : (n : ℕ) (keyword w : List ℕ) → slice_get reserved n ≡ Some keyword → is_reserved w ≡ false → is_keyword keyword w ≡ false
 no_keyword n keyword w e h = none_at (λ k. is_keyword k w) n reserved keyword e h
 
-pub name_takes : (w : List ℕ) (ts : List Token) → IsName w → name_at (Word w ∷ ts) ≡ Some (w, ts)
+pub name_takes : (w : List ℕ) (ts : List Token) → IsNameWord w → name_at (Word w ∷ ts) ≡ Some (w, ts)
 unfolding name_at
 name_takes w ts h = cond-false (is_reserved w) _ _ h.1
 
@@ -51,7 +51,7 @@ unfolding keyword_at
 keyword_misses keyword w ts h = cond-false (is_keyword keyword w) _ _ h
 
 -- names, texts, numbers and signs are no stops
-pub name_clear : (w : List ℕ) → IsName w → IsClear (Word w ∷ [])
+pub name_clear : (w : List ℕ) → IsNameWord w → IsClear (Word w ∷ [])
 name_clear w h stops.Comma = refl
 name_clear w h stops.Close = refl
 name_clear w h stops.And = rw (no_keyword 0 (codes "and") w refl h.1) refl
@@ -156,18 +156,18 @@ cmp_clear cmp.Ge stops.Where = refl
 cmp_token_clear : (c : Cmp) → IsClear (cmp_token c ∷ [])
 cmp_token_clear c stop = rw (cmp_clear c stop) refl
 
-dotted_clear : (alias : Option (List ℕ)) (col : List ℕ) → IsSomeAnd alias IsName → IsName col → IsClear (named_tokens alias col)
+dotted_clear : (alias : Option (List ℕ)) (col : List ℕ) → IsSomeAnd alias IsNameWord → IsNameWord col → IsClear (named_tokens alias col)
 dotted_clear None col h k = absurd h
 dotted_clear (Some a) col h k = clear_both (Word a ∷ []) (Dot ∷ Word col ∷ []) (name_clear a h) (clear_both (Dot ∷ []) (Word col ∷ []) dot_clear (name_clear col k))
 
-pub full_clear : (c : RawCol) → IsFullCol c → IsClear (col_tokens c)
+pub full_clear : (c : RawCol) → IsFullColumn c → IsClear (col_tokens c)
 full_clear c h = dotted_clear c.alias c.col h.0 h.1
 
-named_bare_clear : (alias : Option (List ℕ)) (col : List ℕ) → alias ≡ None → IsName col → IsClear (named_tokens alias col)
+named_bare_clear : (alias : Option (List ℕ)) (col : List ℕ) → alias ≡ None → IsNameWord col → IsClear (named_tokens alias col)
 named_bare_clear None col e k = name_clear col k
 named_bare_clear (Some a) col e k = cc
 
-pub bare_clear : (c : RawCol) → IsBareCol c → IsClear (col_tokens c)
+pub bare_clear : (c : RawCol) → IsBareColumn c → IsClear (col_tokens c)
 bare_clear c h = named_bare_clear c.alias c.col h.0 h.1
 
 not_clear : (s : Sign) → IsClear (not_tokens s)
@@ -203,12 +203,12 @@ cond_clear IsCol each c h k =
     clear_both (col_tokens c.left ++ cmp_token c.cmp ∷ []) (side_tokens c.right)
     (clear_both (col_tokens c.left) (cmp_token c.cmp ∷ []) (each c.left h) (cmp_token_clear c.cmp)) (side_clear IsCol each c.right k)
 
-pub set_clear : (s : RawSet) → IsName s.col → IsClear (set_tokens s)
+pub set_clear : (s : RawSet) → IsNameWord s.col → IsClear (set_tokens s)
 set_clear s h = clear_both (Word s.col ∷ []) (Eq ∷ value_tokens s.to) (name_clear s.col h) (clear_both (Eq ∷ []) (value_tokens s.to) equal_clear (value_clear s.to))
 
 kind_clear : (k : Kind) → IsClear (Word (kind_text k) ∷ [])
 kind_clear kind.Int = int_word_clear
 kind_clear kind.Text = text_word_clear
 
-pub column_clear : (c : ColDef) → IsName c.name → IsClear (column_tokens c)
+pub column_clear : (c : ColDef) → IsNameWord c.name → IsClear (column_tokens c)
 column_clear c h = clear_both (Word c.name ∷ []) (Word (kind_text c.kind) ∷ []) (name_clear c.name h) (kind_clear c.kind)

@@ -30,8 +30,8 @@ use Rattle.bdb_syntax.specs.declared.command.RawSide.TheVariants.{Col, Lit}
 use Rattle.bdb_syntax.specs.declared.command.RawWho.{RawWho}
 use Rattle.bdb_syntax.specs.declared.command.RawWho.TheVariants as who
 use Rattle.bdb_syntax.specs.Keywords.{is_reserved}
-use Rattle.bdb_syntax.specs.Printable.{IsName, IsBareCol, IsFullCol, IsPrintableWho, IsPrintableItem}
-use Rattle.bdb_parse.specs.Numbers.{number_of, is_i64}
+use Rattle.bdb_syntax.specs.Printable.{IsNameWord, IsBareColumn, IsFullColumn, IsPrintableWho, IsPrintableItem}
+use Rattle.bdb_parse.specs.Numbers.{number_written, is_i64}
 use Rattle.bdb_parse.specs.Fits.{value_fits, side_fits, cond_fits, set_fits}
 use Rattle.bdb_parse.specs.Reading.{keyword_at, literal_of, cmp_at, col_at, col_of, bare, bare_of, side_of, test_of, cond_of, set_of, kind_of, column_of, beliefs_at, whos_at, sign_at, target_at, alias_of, item_of}
 use Rattle.bdb_parse.proofs.PrintedTokens.{value_tokens, named_tokens, col_tokens, side_tokens, cmp_token, cond_tokens, set_tokens, column_tokens, belief_tokens, who_tokens, not_tokens, target_tokens, item_tokens}
@@ -45,7 +45,7 @@ has_some : (n : ℕ) → (suc n == 0) ≡ false
 has_some n = grind (arith, nat_tests)
 
 -- digits write their value
-digits_number : (a : List ℕ) → list_all is_ascii_digit a ≡ true → 0 < length a → number_of a ≡ Some (pos (digits_value 10 a))
+digits_number : (a : List ℕ) → list_all is_ascii_digit a ≡ true → 0 < length a → number_written a ≡ Some (pos (digits_value 10 a))
 digits_number [] h n = absurd (omega arith)
 digits_number (c ∷ cs) h n =
     let p = and_parts (is_ascii_digit c) (list_all is_ascii_digit cs) h in
@@ -54,11 +54,11 @@ digits_number (c ∷ cs) h n =
     let some : (suc (length cs) == 0) ≡ false = has_some (length cs) in
     rw (dash, plus, h, some) refl
 
-dashed_number : (a : List ℕ) → list_all is_ascii_digit a ≡ true → 0 < length a → (n : ℕ) → digits_value 10 a ≡ suc n → number_of (45 ∷ a) ≡ Some (negsuc n)
+dashed_number : (a : List ℕ) → list_all is_ascii_digit a ≡ true → 0 < length a → (n : ℕ) → digits_value 10 a ≡ suc n → number_written (45 ∷ a) ≡ Some (negsuc n)
 dashed_number [] h k n e = absurd (omega arith)
 dashed_number (c ∷ cs) h k n e = let some : (suc (length cs) == 0) ≡ false = has_some (length cs) in rw (h, e, some) refl
 
-pub int_parses : (z : ℤ) → is_i64 z ≡ true → number_of (int_text z) ≡ Some z
+pub int_parses : (z : ℤ) → is_i64 z ≡ true → number_written (int_text z) ≡ Some z
 int_parses (pos n) h =
     let small : n < 2 ^ 63 = ltb-true n (2 ^ 63) h in
     let fits : n < 2 ^ 64 = omega arith in
@@ -68,41 +68,41 @@ int_parses (negsuc n) h =
     let fits : suc n < 2 ^ 64 = omega arith in
     dashed_number (decimal (suc n)) (digits_decimal digits_own (suc n) fits) (decimal_nonempty (suc n) fits) n (digits_value-decimal digits_own (suc n) fits)
 
-pub value_parses : (v : Value) → value_fits v ≡ true → literal_of number_of (value_tokens v) ≡ Some v
+pub value_parses : (v : Value) → value_fits v ≡ true → literal_of number_written (value_tokens v) ≡ Some v
 value_parses (value.Int n) f = rw (int_parses n f) refl
 value_parses (value.Text t) f = refl
 
-dotted_parses : (alias : Option (List ℕ)) (col : List ℕ) (rest : List Token) → IsSomeAnd alias IsName → IsName col
+dotted_parses : (alias : Option (List ℕ)) (col : List ℕ) (rest : List Token) → IsSomeAnd alias IsNameWord → IsNameWord col
     → col_at (named_tokens alias col ++ rest) ≡ Some (record { alias = alias; col = col }, rest)
 unfolding col_at
 dotted_parses None col rest h k = absurd h
 dotted_parses (Some a) col rest h k = rw (name_takes a (Dot ∷ Word col ∷ rest) h, name_takes col rest k) refl
 
-col_takes : (c : RawCol) (rest : List Token) → IsFullCol c → col_at (col_tokens c ++ rest) ≡ Some (c, rest)
+col_takes : (c : RawCol) (rest : List Token) → IsFullColumn c → col_at (col_tokens c ++ rest) ≡ Some (c, rest)
 col_takes c rest h = dotted_parses c.alias c.col rest h.0 h.1
 
-pub col_parses : (c : RawCol) → IsFullCol c → col_of (col_tokens c) ≡ Some c
+pub col_parses : (c : RawCol) → IsFullColumn c → col_of (col_tokens c) ≡ Some c
 unfolding col_of
 col_parses c h = rw (sym (append-nil (col_tokens c)), col_takes c [] h) refl
 
 bare_is : (c : RawCol) → c.alias ≡ None → bare c.col ≡ c
 bare_is c h = let of : Option (List ℕ) → RawCol = λ a. record { alias = a; col = c.col } in ap of (sym h)
 
-bare_parses : (c : RawCol) → IsBareCol c → bare_of (col_tokens c) ≡ Some c
+bare_parses : (c : RawCol) → IsBareColumn c → bare_of (col_tokens c) ≡ Some c
 unfolding bare_of
 bare_parses c h = subst (λ x. bare_of (col_tokens x) ≡ Some x) (bare_is c h.0) (at_name c.col h.1)
   where
-    at_name : (w : List ℕ) → IsName w → bare_of (Word w ∷ []) ≡ Some (bare w)
+    at_name : (w : List ℕ) → IsNameWord w → bare_of (Word w ∷ []) ≡ Some (bare w)
     at_name w k = rw (name_takes w [] k) refl
 
 -- a value is no word, and a column begins with one
 side_parses : (IsCol : RawCol → Type 0) (read : List Token → Option RawCol) → ((c : RawCol) → IsCol c → read (col_tokens c) ≡ Some c) → (s : RawSide) → IsSideOf IsCol s
-    → side_fits s ≡ true → side_of read number_of (side_tokens s) ≡ Some s
+    → side_fits s ≡ true → side_of read number_written (side_tokens s) ≡ Some s
 unfolding side_of
 side_parses IsCol read each (Col c) h f = col_side c.alias c.col (each c h)
   where
     col_side : (alias : Option (List ℕ)) (col : List ℕ) → read (named_tokens alias col) ≡ Some (record { alias = alias; col = col })
-        → side_of read number_of (named_tokens alias col) ≡ Some (Col (record { alias = alias; col = col }))
+        → side_of read number_written (named_tokens alias col) ≡ Some (Col (record { alias = alias; col = col }))
     col_side None col e = rw e refl
     col_side (Some a) col e = rw e refl
 side_parses IsCol read each (Lit (value.Int n)) h f = rw (int_parses n f) refl
@@ -116,25 +116,25 @@ cmp_takes cmp.Le rest = refl
 cmp_takes cmp.Gt rest = refl
 cmp_takes cmp.Ge rest = refl
 
-pub cond_parses : (c : RawCond) → IsFullCol c.left → IsSideOf IsFullCol c.right → cond_fits c ≡ true → cond_of number_of (cond_tokens c) ≡ Some c
+pub cond_parses : (c : RawCond) → IsFullColumn c.left → IsSideOf IsFullColumn c.right → cond_fits c ≡ true → cond_of number_written (cond_tokens c) ≡ Some c
 unfolding cond_of
 cond_parses c h k f =
     rw (
       append_assoc (col_tokens c.left) (cmp_token c.cmp ∷ []) (side_tokens c.right),
       col_takes c.left (cmp_token c.cmp ∷ side_tokens c.right) h,
       cmp_takes c.cmp (side_tokens c.right),
-      side_parses IsFullCol col_of col_parses c.right k f,
+      side_parses IsFullColumn col_of col_parses c.right k f,
     ) refl
 
-pub test_parses : (c : RawCond) → IsBareCol c.left → IsSideOf IsBareCol c.right → cond_fits c ≡ true → test_of number_of (cond_tokens c) ≡ Some c
+pub test_parses : (c : RawCond) → IsBareColumn c.left → IsSideOf IsBareColumn c.right → cond_fits c ≡ true → test_of number_written (cond_tokens c) ≡ Some c
 unfolding test_of
-test_parses c h k f = subst (λ x. test_of number_of (cond_tokens (record { left = x; cmp = c.cmp; right = c.right })) ≡ Some (record { left = x; cmp = c.cmp; right = c.right })) (bare_is c.left h.0)
+test_parses c h k f = subst (λ x. test_of number_written (cond_tokens (record { left = x; cmp = c.cmp; right = c.right })) ≡ Some (record { left = x; cmp = c.cmp; right = c.right })) (bare_is c.left h.0)
     (at_name c.left.col h.1)
   where
-    at_name : (w : List ℕ) → IsName w → test_of number_of (Word w ∷ cmp_token c.cmp ∷ side_tokens c.right) ≡ Some (record { left = bare w; cmp = c.cmp; right = c.right })
-    at_name w n = rw (name_takes w (cmp_token c.cmp ∷ side_tokens c.right) n, cmp_takes c.cmp (side_tokens c.right), side_parses IsBareCol bare_of bare_parses c.right k f) refl
+    at_name : (w : List ℕ) → IsNameWord w → test_of number_written (Word w ∷ cmp_token c.cmp ∷ side_tokens c.right) ≡ Some (record { left = bare w; cmp = c.cmp; right = c.right })
+    at_name w n = rw (name_takes w (cmp_token c.cmp ∷ side_tokens c.right) n, cmp_takes c.cmp (side_tokens c.right), side_parses IsBareColumn bare_of bare_parses c.right k f) refl
 
-pub set_parses : (s : RawSet) → IsName s.col → set_fits s ≡ true → set_of number_of (set_tokens s) ≡ Some s
+pub set_parses : (s : RawSet) → IsNameWord s.col → set_fits s ≡ true → set_of number_written (set_tokens s) ≡ Some s
 unfolding set_of
 set_parses s h f = rw (name_takes s.col (Eq ∷ value_tokens s.to) h, value_parses s.to f) refl
 
@@ -143,7 +143,7 @@ unfolding kind_of
 kind_parses kind.Int = refl
 kind_parses kind.Text = refl
 
-pub column_parses : (c : ColDef) → IsName c.name → column_of (column_tokens c) ≡ Some c
+pub column_parses : (c : ColDef) → IsNameWord c.name → column_of (column_tokens c) ≡ Some c
 unfolding column_of
 column_parses c h = rw (name_takes c.name (Word (kind_text c.kind) ∷ []) h, kind_parses c.kind) refl
 
@@ -168,12 +168,12 @@ not_taken : (rest : List Token) → keyword_at (codes "not") (Word (codes "not")
 unfolding keyword_at
 not_taken rest = refl
 
-sign_parses : (s : Sign) (rel : List ℕ) (rest : List Token) → IsName rel → sign_at (not_tokens s ++ Word rel ∷ rest) ≡ (s, Word rel ∷ rest)
+sign_parses : (s : Sign) (rel : List ℕ) (rest : List Token) → IsNameWord rel → sign_at (not_tokens s ++ Word rel ∷ rest) ≡ (s, Word rel ∷ rest)
 unfolding sign_at
 sign_parses Plus rel rest h = rw (keyword_misses (codes "not") rel rest (no_keyword 7 (codes "not") rel refl h.1)) refl
 sign_parses Minus rel rest h = rw (not_taken (Word rel ∷ rest)) refl
 
-pub target_parses : (users : List (List ℕ)) (s : Sign) (rel : List ℕ) (rest : List Token) → IsName rel → begins_plain rest ≡ true
+pub target_parses : (users : List (List ℕ)) (s : Sign) (rel : List ℕ) (rest : List Token) → IsNameWord rel → begins_plain rest ≡ true
     → target_at (target_tokens users s rel ++ rest) ≡ Some (record { users = users; sign = s; rel = rel }, rest)
 unfolding target_at
 target_parses users s rel rest h b =
@@ -190,7 +190,7 @@ whos_stop Plus rel alias = refl
 whos_stop Minus rel alias = refl
 
 -- one user that is a column, where those after it are read
-who_parses : (alias : Option (List ℕ)) (col : List ℕ) (path : List RawWho) (more rest : List Token) → IsSomeAnd alias IsName → IsName col → whos_at more ≡ (path, rest)
+who_parses : (alias : Option (List ℕ)) (col : List ℕ) (path : List RawWho) (more rest : List Token) → IsSomeAnd alias IsNameWord → IsNameWord col → whos_at more ≡ (path, rest)
     → whos_at (Word (codes "BELIEF") ∷ named_tokens alias col ++ more) ≡ (who.Col (record { alias = alias; col = col }) ∷ path, rest)
 who_parses None col path more rest h k e = absurd h
 who_parses (Some a) col path more rest h k e =
@@ -205,7 +205,7 @@ whos_parse (who.Col c ∷ path) rest h e =
     ap whos_at (append_assoc (who_tokens (who.Col c)) (flat_map who_tokens path) rest)
     ∙ who_parses c.alias c.col path (flat_map who_tokens path ++ rest) rest h.0.0 h.0.1 (whos_parse path rest h.1 e)
 
-alias_parses : (rel alias : List ℕ) → IsName alias → alias_of rel (Word alias ∷ []) ≡ Some alias
+alias_parses : (rel alias : List ℕ) → IsNameWord alias → alias_of rel (Word alias ∷ []) ≡ Some alias
 unfolding alias_of
 alias_parses rel alias h = rw (keyword_misses (codes "as") alias [] (no_keyword 1 (codes "as") alias refl h.1), name_takes alias [] h) refl
 

@@ -21,7 +21,7 @@ use Rattle.bdb_syntax.specs.declared.command.Command.{Command}
 use Rattle.bdb_syntax.specs.declared.command.Command.TheVariants.{CreateUser, DropUser, CreateRelation, Insert, Delete, Update, Select, Explain, ShowWorld, Why, ShowTables, Undo, Redo}
 use Rattle.bdb_syntax.specs.Printable as printable
 use Rattle.bdb_parse.specs.Spelled.{AreWellSpelled}
-use Rattle.bdb_parse.specs.Grammar.{◌▸◌, IsToken, IsKeyword, IsName, IsKey, IsLiteral, AreSeparated, AreRepeated, IsBelief, IsSign, IsKind, IsColumn, cmp_token, IsBareCol, IsFullCol, IsSide, IsCond, AreConds, IsSet, IsWho, IsItemBelief, IsAlias, IsItem, IsTarget, IsSigned, IsQuery, IsCommand}
+use Rattle.bdb_parse.specs.Grammar.{◌▸◌, IsToken, IsKeyword, IsName, IsKeyClause, IsLiteral, AreSeparated, AreRepeated, IsBelief, IsSign, IsKind, IsColumn, cmp_token, IsBareCol, IsFullCol, IsSide, IsCond, AreConds, IsSet, IsWho, IsItemBelief, IsAlias, IsItem, IsTarget, IsSigned, IsQuery, IsCommand}
 
 both_spelled : (xs ys : List Token) → AreWellSpelled (xs ++ ys) → AreWellSpelled xs × AreWellSpelled ys
 both_spelled [] ys h = (tt, h)
@@ -31,7 +31,7 @@ both_spelled (x ∷ xs) ys h = let i = both_spelled xs ys h.1 in ((h.0, i.0), i.
 halves : (P Q : List Token → Type 0) (ts : List Token) → (h : (P ▸ Q) ts) → AreWellSpelled ts → AreWellSpelled h.0 × AreWellSpelled h.1
 halves P Q ts h w = both_spelled h.0 h.1 (subst AreWellSpelled h.2 w)
 
-name_ok : (n : List ℕ) (ts : List Token) → IsName n ts → AreWellSpelled ts → printable.IsName n
+name_ok : (n : List ℕ) (ts : List Token) → IsName n ts → AreWellSpelled ts → printable.IsNameWord n
 name_ok n ts h w = ((subst AreWellSpelled h.0 w).0, h.1)
 
 text_ok : (t : List ℕ) (ts : List Token) → IsToken (Text t) ts → AreWellSpelled ts → printable.IsContent t
@@ -60,17 +60,17 @@ belief_ok : (user : List ℕ) (ts : List Token) → IsBelief user ts → AreWell
 belief_ok user ts h w =
     text_ok user h.1 h.4 (halves (IsKeyword (codes "belief")) (IsToken (Text user)) ts h w).1
 
-column_ok : (c : ColDef) (ts : List Token) → IsColumn c ts → AreWellSpelled ts → printable.IsName c.name
+column_ok : (c : ColDef) (ts : List Token) → IsColumn c ts → AreWellSpelled ts → printable.IsNameWord c.name
 column_ok c ts h w = name_ok c.name h.0 h.3 (halves (IsName c.name) (IsKind c.kind) ts h w).0
 
-bare_ok : (c : RawCol) (ts : List Token) → IsBareCol c ts → AreWellSpelled ts → printable.IsBareCol c
+bare_ok : (c : RawCol) (ts : List Token) → IsBareCol c ts → AreWellSpelled ts → printable.IsBareColumn c
 bare_ok c ts h w = (h.0, name_ok c.col ts h.1 w)
 
-full_ok : (c : RawCol) (ts : List Token) → IsFullCol c ts → AreWellSpelled ts → printable.IsFullCol c
+full_ok : (c : RawCol) (ts : List Token) → IsFullCol c ts → AreWellSpelled ts → printable.IsFullColumn c
 full_ok c ts h w =
     let a = halves (IsName h.0) (IsToken Dot ▸ IsName c.col) ts h.2 w in
     let b = halves (IsToken Dot) (IsName c.col) h.2.1 h.2.4 a.1 in
-    let F : Option (List ℕ) → Type 0 = λ o. IsSomeAnd o printable.IsName in
+    let F : Option (List ℕ) → Type 0 = λ o. IsSomeAnd o printable.IsNameWord in
     (subst F (sym h.1) (name_ok h.0 h.2.0 h.2.3 a.0), name_ok c.col h.2.4.1 h.2.4.4 b.1)
 
 side_ok : (P : RawCol → List Token → Type 0) (Q : RawCol → Type 0) → ((c : RawCol) (ts : List Token) → P c ts → AreWellSpelled ts → Q c) → (s : RawSide) (ts : List Token) → IsSide P s ts → AreWellSpelled ts → printable.IsPrintableSide Q s
@@ -104,8 +104,8 @@ item_belief_ok : (x : RawWho) (ts : List Token) → IsItemBelief x ts → AreWel
 item_belief_ok x ts h w =
     who_ok x h.1 h.4 (halves (IsKeyword (codes "belief")) (IsWho x) ts h w).1
 
-alias_ok : (rel alias : List ℕ) (ts : List Token) → printable.IsName rel → IsAlias rel alias ts → AreWellSpelled ts → printable.IsName alias
-alias_ok rel alias ts r (inl h) w = subst printable.IsName (sym h.1) r
+alias_ok : (rel alias : List ℕ) (ts : List Token) → printable.IsNameWord rel → IsAlias rel alias ts → AreWellSpelled ts → printable.IsNameWord alias
+alias_ok rel alias ts r (inl h) w = subst printable.IsNameWord (sym h.1) r
 alias_ok rel alias ts r (inr (inl n)) w = name_ok alias ts n w
 alias_ok rel alias ts r (inr (inr h)) w =
     name_ok alias h.1 h.4 (halves (IsKeyword (codes "as")) (IsName alias) ts h w).1
@@ -133,13 +133,13 @@ query_ok q ts h w =
     let c = halves From (Items ▸ Conds) t.1 f b.1 in
     let i = f.4 in
     let d = halves Items Conds f.1 i c.1 in (
-      separated_ok IsFullCol (IsToken Comma) printable.IsFullCol full_ok q.take t.0 t.3 b.0,
+      separated_ok IsFullCol (IsToken Comma) printable.IsFullColumn full_ok q.take t.0 t.3 b.0,
       separated_ok IsItem (IsToken Comma) printable.IsPrintableItem item_ok q.items i.0 i.3 d.0,
-      conds_ok IsFullCol printable.IsFullCol full_ok q.conds i.1 i.4 d.1,
+      conds_ok IsFullCol printable.IsFullColumn full_ok q.conds i.1 i.4 d.1,
     )
 
 -- a path, a sign and a relation, and the tokens behind them
-target_ok : (users : List (List ℕ)) (sign : Sign) (rel : List ℕ) (After : List Token → Type 0) (ts : List Token) → (h : IsTarget users sign rel After ts) → AreWellSpelled ts → AllByRecursion printable.IsContent users × printable.IsName rel × AreWellSpelled h.4.4.1
+target_ok : (users : List (List ℕ)) (sign : Sign) (rel : List ℕ) (After : List Token → Type 0) (ts : List Token) → (h : IsTarget users sign rel After ts) → AreWellSpelled ts → AllByRecursion printable.IsContent users × printable.IsNameWord rel × AreWellSpelled h.4.4.1
 target_ok users sign rel After ts h w =
     let a = halves (AreRepeated IsBelief users) (IsSign sign ▸ IsName rel ▸ After) ts h w in
     let b = halves (IsSign sign) (IsName rel ▸ After) h.1 h.4 a.1 in
@@ -171,13 +171,13 @@ parts_ok (DropUser name) ts h w =
     text_ok name h.4.1 h.4.4 b.1
 parts_ok (CreateRelation name cols key) ts h w =
     let Cols = AreSeparated IsColumn (IsToken Comma) cols in
-    let After = IsToken ParenR ▸ IsKey key in
+    let After = IsToken ParenR ▸ IsKeyClause key in
     let Body = IsToken ParenL ▸ Cols ▸ After in
     let a = halves (IsKeyword (codes "create")) (IsKeyword (codes "relation") ▸ IsName name ▸ Body) ts h w in
     let b = halves (IsKeyword (codes "relation")) (IsName name ▸ Body) h.1 h.4 a.1 in
     let n = h.4.4 in
     let c = halves (IsName name) Body h.4.1 n b.1 in
-    (name_ok name n.0 n.3 c.0, separated_ok IsColumn (IsToken Comma) (λ (x : ColDef). printable.IsName x.name) column_ok cols n.4.4.0 n.4.4.3 (inside_ok Cols After n.1 n.4 c.1))
+    (name_ok name n.0 n.3 c.0, separated_ok IsColumn (IsToken Comma) (λ (x : ColDef). printable.IsNameWord x.name) column_ok cols n.4.4.0 n.4.4.3 (inside_ok Cols After n.1 n.4 c.1))
 parts_ok (Insert users sign rel vals) ts h w =
     let Signed = IsSigned users sign rel vals in
     let a = halves (IsKeyword (codes "insert")) (IsKeyword (codes "into") ▸ Signed) ts h w in
@@ -188,7 +188,7 @@ parts_ok (Delete users sign rel conds) ts h w =
     let a = halves (IsKeyword (codes "delete")) (IsKeyword (codes "from") ▸ IsTarget users sign rel After) ts h w in
     let b = halves (IsKeyword (codes "from")) (IsTarget users sign rel After) h.1 h.4 a.1 in
     let t = target_ok users sign rel After h.4.1 h.4.4 b.1 in
-    (t.0, t.1, conds_ok IsBareCol printable.IsBareCol bare_ok conds h.4.4.4.4.1 h.4.4.4.4.4 t.2)
+    (t.0, t.1, conds_ok IsBareCol printable.IsBareColumn bare_ok conds h.4.4.4.4.1 h.4.4.4.4.4 t.2)
 parts_ok (Update users sign rel sets conds) ts h w =
     let Sets = AreSeparated IsSet (IsToken Comma) sets in
     let Conds = AreConds IsBareCol conds in
@@ -198,7 +198,7 @@ parts_ok (Update users sign rel sets conds) ts h w =
     let s = h.4.4.4.4 in
     let b = halves (IsKeyword (codes "set")) (Sets ▸ Conds) h.4.4.4.1 s t.2 in
     let c = halves Sets Conds s.1 s.4 b.1 in
-    (t.0, t.1, separated_ok IsSet (IsToken Comma) printable.IsPrintableSet set_ok sets s.4.0 s.4.3 c.0, conds_ok IsBareCol printable.IsBareCol bare_ok conds s.4.1 s.4.4 c.1)
+    (t.0, t.1, separated_ok IsSet (IsToken Comma) printable.IsPrintableSet set_ok sets s.4.0 s.4.3 c.0, conds_ok IsBareCol printable.IsBareColumn bare_ok conds s.4.1 s.4.4 c.1)
 parts_ok (Select q) ts h w = query_ok q ts h w
 parts_ok (Explain q) ts h w =
     query_ok q h.1 h.4 (halves (IsKeyword (codes "explain")) (IsQuery q) ts h w).1

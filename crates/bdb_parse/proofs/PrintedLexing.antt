@@ -26,7 +26,7 @@ use Rattle.bdb_syntax.specs.declared.command.RawSide.TheVariants.{Col, Lit}
 use Rattle.bdb_syntax.specs.declared.command.RawWho.{RawWho}
 use Rattle.bdb_syntax.specs.declared.command.RawWho.TheVariants as who
 use Rattle.bdb_syntax.specs.Printed.{col_text, side_text, cond_text, where_text, set_text, belief_text, who_text, not_text, key_text, target_text, values_text, signed_text, item_text, query_text, printed}
-use Rattle.bdb_syntax.specs.Printable.{IsName, IsContent, IsPrintableValue, IsBareCol, IsFullCol, IsPrintableSide, IsPrintableCond, IsPrintableWho, IsPrintableItem, IsPrintableSet, IsPrintableSigned, IsPrintableQuery, IsPrintable}
+use Rattle.bdb_syntax.specs.Printable.{IsNameWord, IsContent, IsPrintableValue, IsBareColumn, IsFullColumn, IsPrintableSide, IsPrintableCond, IsPrintableWho, IsPrintableItem, IsPrintableSet, IsPrintableSigned, IsPrintableQuery, IsPrintable}
 use Rattle.bdb_parse.specs.Fits.{value_fits, side_fits, cond_fits, set_fits, query_fits, key_fits, fits}
 use Rattle.bdb_parse.proofs.PrintedTokens.{parted, value_tokens, named_tokens, col_tokens, side_tokens, cond_tokens, where_tokens, set_tokens, column_tokens, belief_tokens, who_tokens, not_tokens, target_tokens, values_tokens, signed_tokens, item_tokens, query_tokens, key_tokens, printed_tokens}
 use Rattle.bdb_parse.proofs.RoundTripLexing.{is_edge, starts_edge, edge_append, edge_from_start, Reads, Ends, reads_all, reads_from_ends, ends_reads, reads_reads, reads_ends, ends_between, ends_mark, reads_word, reads_nothing}
@@ -91,17 +91,17 @@ close_ends = ends_mark (codes ")") [] ParenR refl refl (λ b. refl) refl
 reads_joined : {X : Type 0} (f : X → List ℕ) (g : X → List Token) (P : X → Type 0) → ((x : X) → P x → Reads (f x) (g x)) → (xs : List X) → AllByRecursion P xs → Reads (joined (map f xs)) (parted Comma (map g xs))
 reads_joined f g P each xs h = reads_separated (codes ", ") Comma comma_ends refl f g P each xs h
 
-name_reads : (w : List ℕ) → IsName w → Reads w (Word w ∷ [])
+name_reads : (w : List ℕ) → IsNameWord w → Reads w (Word w ∷ [])
 name_reads w h = word_reads w h.0
 
-bare_reads : (c : RawCol) → IsBareCol c → Reads (col_text c) (col_tokens c)
+bare_reads : (c : RawCol) → IsBareColumn c → Reads (col_text c) (col_tokens c)
 bare_reads c h = let e : c.alias ≡ None = h.0 in rw e (name_reads c.col h.1)
 
-dotted_reads : (alias : Option (List ℕ)) (col : List ℕ) → IsSomeAnd alias IsName → IsName col → Reads (named_column alias col) (named_tokens alias col)
+dotted_reads : (alias : Option (List ℕ)) (col : List ℕ) → IsSomeAnd alias IsNameWord → IsNameWord col → Reads (named_column alias col) (named_tokens alias col)
 dotted_reads None col h k = absurd h
 dotted_reads (Some alias) col h k = ends_reads (reads_ends refl (name_reads alias h) dot_ends) (name_reads col k)
 
-pub full_reads : (c : RawCol) → IsFullCol c → Reads (col_text c) (col_tokens c)
+pub full_reads : (c : RawCol) → IsFullColumn c → Reads (col_text c) (col_tokens c)
 full_reads c h = dotted_reads c.alias c.col h.0 h.1
 
 -- columns of one form read back
@@ -137,7 +137,7 @@ kind_reads : (k : Kind) → Reads (kind_text k) (Word (kind_text k) ∷ [])
 kind_reads kind.Int = word_reads (codes "int") refl
 kind_reads kind.Text = word_reads (codes "text") refl
 
-column_reads : (c : ColDef) → IsName c.name → Reads (column_text c) (column_tokens c)
+column_reads : (c : ColDef) → IsNameWord c.name → Reads (column_text c) (column_tokens c)
 column_reads c h = ends_reads (ends_space (name_reads c.name h)) (kind_reads c.kind)
 
 belief_ends : Ends (codes " BELIEF ") (Word (codes "BELIEF") ∷ [])
@@ -172,7 +172,7 @@ sign_edge front rest s e = edge_from_start (front ++ not_text s ++ codes " ") re
 target_edge : (users : List (List ℕ)) (s : Sign) (rel : List ℕ) → is_edge (target_text users s rel) ≡ true
 target_edge users s rel = sign_edge (flat_map belief_text users) rel s (flat_edge belief_text (λ u. refl) users)
 
-target_reads : (users : List (List ℕ)) (s : Sign) (rel : List ℕ) → AllByRecursion IsContent users → IsName rel → Reads (target_text users s rel) (target_tokens users s rel)
+target_reads : (users : List (List ℕ)) (s : Sign) (rel : List ℕ) → AllByRecursion IsContent users → IsNameWord rel → Reads (target_text users s rel) (target_tokens users s rel)
 target_reads users s rel h k = ends_reads (ends_space (reads_reads (not_edge s) (beliefs_read users h) (not_reads s))) (name_reads rel k)
 
 values_read : (vals : List Value) → AllByRecursion IsPrintableValue vals → list_all value_fits vals ≡ true → Ends (values_text vals) (values_tokens vals)
@@ -208,10 +208,10 @@ query_reads q h f =
     reads_reads (where_edge q.conds)
     (reads_reads (items_edge q.items)
     (reads_reads refl
-    (ends_reads (ends_between (codes "select ") (Word (codes "select") ∷ []) refl refl) (reads_joined col_text col_tokens IsFullCol full_reads q.take h.0))
+    (ends_reads (ends_between (codes "select ") (Word (codes "select") ∷ []) refl refl) (reads_joined col_text col_tokens IsFullColumn full_reads q.take h.0))
     (reads_word (codes " from") [] (codes "from") refl refl refl))
     (reads_separated (codes ",") Comma bare_comma_ends refl item_text item_tokens IsPrintableItem item_reads q.items h.1))
-    (where_reads IsFullCol full_reads q.conds h.2 f)
+    (where_reads IsFullColumn full_reads q.conds h.2 f)
 
 key_reads : (key : Option ℤ) → key_fits key ≡ true → Reads (key_text key) (key_tokens key)
 key_reads None f = reads_nothing
@@ -223,7 +223,7 @@ command_reads (DropUser name) p f = ends_reads (ends_between (codes "drop user "
 command_reads (CreateRelation name cols key) p f =
     ends_reads (reads_ends refl
     (ends_reads (reads_ends refl (ends_reads (ends_between (codes "create relation ") (Word (codes "create") ∷ Word (codes "relation") ∷ []) refl refl) (name_reads name p.parts.0)) open_ends)
-    (reads_joined column_text column_tokens (λ (c : ColDef). IsName c.name) column_reads cols p.parts.1))
+    (reads_joined column_text column_tokens (λ (c : ColDef). IsNameWord c.name) column_reads cols p.parts.1))
     close_ends) (key_reads key f)
 command_reads (Insert users sign rel vals) p f =
     reads_reads (signed_edge users sign rel vals) (reads_word (codes "insert into") (Word (codes "insert") ∷ []) (codes "into") refl refl refl)
@@ -231,7 +231,7 @@ command_reads (Insert users sign rel vals) p f =
 command_reads (Delete users sign rel conds) p f =
     reads_reads (where_edge conds)
     (reads_reads (target_edge users sign rel) (reads_word (codes "delete from") (Word (codes "delete") ∷ []) (codes "from") refl refl refl) (target_reads users sign rel p.parts.0 p.parts.1))
-    (where_reads IsBareCol bare_reads conds p.parts.2 f)
+    (where_reads IsBareColumn bare_reads conds p.parts.2 f)
 command_reads (Update users sign rel sets conds) p f =
     let fit = and_parts (list_all set_fits sets) (list_all cond_fits conds) f in
     reads_reads (where_edge conds)
@@ -239,7 +239,7 @@ command_reads (Update users sign rel sets conds) p f =
     (reads_reads (target_edge users sign rel) (reads_word (codes "update") [] (codes "update") refl refl refl) (target_reads users sign rel p.parts.0 p.parts.1))
     (ends_between (codes " set ") (Word (codes "set") ∷ []) refl refl))
     (reads_joined set_text set_tokens (λ s. IsPrintableSet s × (set_fits s ≡ true)) set_reads sets (both IsPrintableSet set_fits sets p.parts.2 fit.0)))
-    (where_reads IsBareCol bare_reads conds p.parts.3 fit.1)
+    (where_reads IsBareColumn bare_reads conds p.parts.3 fit.1)
 command_reads (Select query) p f = query_reads query p.parts f
 command_reads (Explain query) p f = ends_reads (ends_between (codes "explain ") (Word (codes "explain") ∷ []) refl refl) (query_reads query p.parts f)
 command_reads (ShowWorld users) p f =

@@ -21,17 +21,17 @@ use Rattle.bdb_syntax.specs.declared.command.RawItem.{RawItem}
 use Rattle.bdb_syntax.specs.declared.command.RawSet.{RawSet}
 use Rattle.bdb_syntax.specs.Keywords.{is_keyword, is_reserved}
 use Rattle.bdb_parse.specs.declared.stop.Stop.TheVariants as stops
-use Rattle.bdb_parse.specs.Numbers.{number_of}
+use Rattle.bdb_parse.specs.Numbers.{number_written}
 use Rattle.bdb_parse.specs.Stops.{is_stop, cut}
-use Rattle.bdb_parse.specs.Grammar.{◌▸◌, IsNothing, IsToken, IsKeyword, IsName, IsNum, IsKey, IsLiteral, AreSeparated, AreRepeated, IsSign, IsKind, IsColumn, cmp_token, IsBareCol, IsFullCol, IsSide, IsCond, AreConds, IsSet, IsItemBelief, IsAlias, IsItem}
+use Rattle.bdb_parse.specs.Grammar.{◌▸◌, IsNothing, IsToken, IsKeyword, IsName, IsNumToken, IsKeyClause, IsLiteral, AreSeparated, AreRepeated, IsSign, IsKind, IsColumn, cmp_token, IsBareCol, IsFullCol, IsSide, IsCond, AreConds, IsSet, IsItemBelief, IsAlias, IsItem}
 use Rattle.bdb_parse.specs.Reading.{end_at, word_at, dot_at, equals_at, open_at, cmp_at, keyword_at, name_at, literal_of, sign_at, set_of, bare_of, col_at, col_of, begins_with_word, side_of, test_of, cond_of, conds_of, inside_at, inside_of, num_of, key_of, column_of, kind_of, past, alias_of, item_of, whos_at}
 use Rattle.bdb_parse.proofs.FilledLemmas.{Each, each_behind, each_map, each_cond, each_at}
 use Rattle.bdb_parse.proofs.Sound.{end_is, word_is, dot_is, equals_is, open_is, cmp_is, some_of_both, name_is, token_then, keyword_then, name_then, name_whole, sign_then, cut_none, cut_some, close_is, and_is, where_is, list_sound}
 
-pub literal_sound : (ts : List Token) → Each (λ v. IsLiteral v ts) (literal_of number_of ts)
+pub literal_sound : (ts : List Token) → Each (λ v. IsLiteral v ts) (literal_of number_written ts)
 literal_sound (Text t ∷ []) = refl
 literal_sound (Num s ∷ []) =
-    each_map (λ (v : Value). IsLiteral v (Num s ∷ [])) values.Int (number_of s) (λ n e. (s, refl, e))
+    each_map (λ (v : Value). IsLiteral v (Num s ∷ [])) values.Int (number_written s) (λ n e. (s, refl, e))
 literal_sound _ = tt
 
 kind_cases : (b c : Bool) (k : Kind) → cond b (Some kinds.Int) (cond c (Some kinds.Text) None) ≡ Some k → ((b ≡ true) × (kinds.Int ≡ k)) ⊎ ((c ≡ true) × (kinds.Text ≡ k))
@@ -57,13 +57,13 @@ column_sound ts =
     each_behind P (kind_of word.0) _ (λ kind h.
     name_then (IsKind kind) ts name e (subst (IsKind kind) (sym (word_is name.1 word f ∙ ap (λ (r : List Token). Word word.0 ∷ r) (end_is word.1 rest g))) (kind_is word.0 kind h))))))
 
-pub set_sound : (ts : List Token) → Each (λ s. IsSet s ts) (set_of number_of ts)
+pub set_sound : (ts : List Token) → Each (λ s. IsSet s ts) (set_of number_written ts)
 unfolding set_of
 set_sound ts =
     let P : RawSet → Type 0 = λ s. IsSet s ts in
     each_behind P (name_at ts) _ (λ col e.
     each_behind P (equals_at col.1) _ (λ rest f.
-    each_behind P (literal_of number_of rest) _ (λ value g.
+    each_behind P (literal_of number_written rest) _ (λ value g.
     name_then (IsToken Eq ▸ IsLiteral value) ts col e
     (token_then (IsToken Eq) (IsLiteral value) col.1 Eq rest (equals_is col.1 rest f) refl
     (each_at (λ (v : Value). IsLiteral v rest) _ value (literal_sound rest) g)))))
@@ -103,21 +103,21 @@ full_sound ts =
     let h = full_front ts [] col e in
     subst (IsFullCol col.0) (sym (h.1 ∙ (ap (λ (r : List Token). h.0 ++ r) (end_is col.1 rest f) ∙ append_none h.0))) h.2))
 
-side_sound : (IsCol : RawCol → List Token → Type 0) (column : List Token → Option RawCol) → ((ts : List Token) → Each (λ c. IsCol c ts) (column ts)) → (ts : List Token) → Each (λ s. IsSide IsCol s ts) (side_of column number_of ts)
+side_sound : (IsCol : RawCol → List Token → Type 0) (column : List Token → Option RawCol) → ((ts : List Token) → Each (λ c. IsCol c ts) (column ts)) → (ts : List Token) → Each (λ s. IsSide IsCol s ts) (side_of column number_written ts)
 unfolding side_of
 side_sound IsCol column r ts =
     let P : RawSide → Type 0 = λ s. IsSide IsCol s ts in
     each_cond P (begins_with_word ts) _ _
     (each_map P sides.Col (column ts) (λ c e. each_at (λ (x : RawCol). IsCol x ts) _ c (r ts) e))
-    (each_map P sides.Lit (literal_of number_of ts) (λ v e. each_at (λ (x : Value). IsLiteral x ts) _ v (literal_sound ts) e))
+    (each_map P sides.Lit (literal_of number_written ts) (λ v e. each_at (λ (x : Value). IsLiteral x ts) _ v (literal_sound ts) e))
 
-pub test_sound : (ts : List Token) → Each (λ c. IsCond IsBareCol c ts) (test_of number_of ts)
+pub test_sound : (ts : List Token) → Each (λ c. IsCond IsBareCol c ts) (test_of number_written ts)
 unfolding test_of
 test_sound ts =
     let P : RawCond → Type 0 = λ c. IsCond IsBareCol c ts in
     each_behind P (name_at ts) _ (λ left e.
     each_behind P (cmp_at left.1) _ (λ cmp f.
-    each_behind P (side_of bare_of number_of cmp.1) _ (λ right g.
+    each_behind P (side_of bare_of number_written cmp.1) _ (λ right g.
     let n = name_is ts left e in (
       Word left.0 ∷ [],
       left.1,
@@ -127,13 +127,13 @@ test_sound ts =
           (each_at (λ (s : RawSide). IsSide IsBareCol s cmp.1) _ right (side_sound IsBareCol bare_of bare_sound cmp.1) g),
     ))))
 
-pub cond_sound : (ts : List Token) → Each (λ c. IsCond IsFullCol c ts) (cond_of number_of ts)
+pub cond_sound : (ts : List Token) → Each (λ c. IsCond IsFullCol c ts) (cond_of number_written ts)
 unfolding cond_of
 cond_sound ts =
     let P : RawCond → Type 0 = λ c. IsCond IsFullCol c ts in
     each_behind P (col_at ts) _ (λ left e.
     each_behind P (cmp_at left.1) _ (λ cmp f.
-    each_behind P (side_of col_of number_of cmp.1) _ (λ right g.
+    each_behind P (side_of col_of number_written cmp.1) _ (λ right g.
     full_then (IsToken (cmp_token cmp.0) ▸ IsSide IsFullCol right) ts left e
     (token_then (IsToken (cmp_token cmp.0)) (IsSide IsFullCol right) left.1 (cmp_token cmp.0) cmp.1 (cmp_is left.1 cmp f) refl
     (each_at (λ (s : RawSide). IsSide IsFullCol s cmp.1) _ right (side_sound IsFullCol col_of full_sound cmp.1) g)))))
@@ -223,19 +223,19 @@ inside_then P ts inside e p =
     let last : w.4.1 ≡ ParenR ∷ [] = r.2 ∙ (ap (λ (f : List Token). f ++ r.1) r.3 ∙ ap (λ (t : List Token). ParenR ∷ t) r.4) in
     (w.0, w.1, w.2, w.3, (w.4.0, w.4.1, w.4.2, w.4.3, last))
 
-num_sound : (ts : List Token) → Each (λ n. IsNum n ts) (num_of number_of ts)
-num_sound (Num s ∷ []) = each_of (number_of s) refl
+num_sound : (ts : List Token) → Each (λ n. IsNumToken n ts) (num_of number_written ts)
+num_sound (Num s ∷ []) = each_of (number_written s) refl
   where
-    each_of : (o : Option ℤ) → number_of s ≡ o → Each (λ n. IsNum n (Num s ∷ [])) o
+    each_of : (o : Option ℤ) → number_written s ≡ o → Each (λ n. IsNumToken n (Num s ∷ [])) o
     each_of None e = tt
     each_of (Some n) e = (s, refl, e)
 num_sound _ = tt
 
-pub key_sound : (ts : List Token) → Each (λ key. IsKey key ts) (key_of number_of ts)
+pub key_sound : (ts : List Token) → Each (λ key. IsKeyClause key ts) (key_of number_written ts)
 unfolding key_of
 key_sound [] = refl
 key_sound (t ∷ ts) =
-    let P : Option ℤ → Type 0 = λ key. IsKey key (t ∷ ts) in
+    let P : Option ℤ → Type 0 = λ key. IsKeyClause key (t ∷ ts) in
     each_behind P (keyword_at (codes "key") (t ∷ ts)) _ (λ rest e.
-    each_map P (λ n. Some n) (num_of number_of rest) (λ n f.
-    keyword_then (codes "key") (IsNum n) (t ∷ ts) rest e (each_at (λ (m : ℤ). IsNum m rest) _ n (num_sound rest) f)))
+    each_map P (λ n. Some n) (num_of number_written rest) (λ n f.
+    keyword_then (codes "key") (IsNumToken n) (t ∷ ts) rest e (each_at (λ (m : ℤ). IsNumToken m rest) _ n (num_sound rest) f)))

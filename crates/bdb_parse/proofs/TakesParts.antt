@@ -26,9 +26,9 @@ use Rattle.bdb_syntax.specs.Keywords.{is_keyword, is_reserved}
 use Rattle.bdb_parse.specs.declared.stop.Stop.{Stop}
 use Rattle.bdb_parse.specs.declared.stop.Stop.TheVariants as stops
 use Rattle.bdb_parse.specs.declared.target.Target.{Target}
-use Rattle.bdb_parse.specs.Numbers.{number_of}
+use Rattle.bdb_parse.specs.Numbers.{number_written}
 use Rattle.bdb_parse.specs.Stops.{cut}
-use Rattle.bdb_parse.specs.Grammar.{◌▸◌, IsNothing, IsToken, IsKeyword, IsName, IsNum, IsKey, IsLiteral, AreRepeated, IsBelief, IsSign, IsKind, IsColumn, cmp_token, IsBareCol, IsFullCol, IsSide, IsCond, AreConds, IsSet, IsWho, IsItemBelief, IsAlias, IsItem, IsTarget}
+use Rattle.bdb_parse.specs.Grammar.{◌▸◌, IsNothing, IsToken, IsKeyword, IsName, IsNumToken, IsKeyClause, IsLiteral, AreRepeated, IsBelief, IsSign, IsKind, IsColumn, cmp_token, IsBareCol, IsFullCol, IsSide, IsCond, AreConds, IsSet, IsWho, IsItemBelief, IsAlias, IsItem, IsTarget}
 use Rattle.bdb_parse.specs.Reading.{◌>>=◌, end_at, word_at, equals_at, open_at, cmp_at, keyword_at, name_at, literal_of, sign_of, sign_at, set_of, bare_of, col_at, col_of, begins_with_word, side_of, test_of, cond_of, conds_of, inside_at, inside_of, num_of, key_of, target_at, column_of, kind_of, past, alias_of, item_of, beliefs_at, whos_at}
 use Rattle.bdb_parse.proofs.Takes.{head_is, keyword_takes, name_takes, name_takes_word, name_is_not_as, name_is_not_belief, name_is_not_not, other_keyword, Free, free_seq, cut_free, cut_at, name_free, keyword_free, text_free, num_free, dot_free, cmp_free, cmp_takes, list_takes, and_stops}
 use Rattle.bdb_parse.proofs.ParsedParts.{keyword_misses}
@@ -36,9 +36,9 @@ use Rattle.bdb_parse.proofs.ParsedParts.{keyword_misses}
 pub then_some : {X Y : Type 0} (o : Option X) (x : X) (k : X → Option Y) (y : Y) → o ≡ Some x → k x ≡ Some y → (o >>= k) ≡ Some y
 then_some {X} o x k y e f = ap (λ (p : Option X). p >>= k) e ∙ f
 
-pub literal_takes : (v : Value) (ts : List Token) → IsLiteral v ts → literal_of number_of ts ≡ Some v
-literal_takes (values.Text t) ts e = ap (literal_of number_of) e
-literal_takes (values.Int n) ts h = ap (literal_of number_of) h.1 ∙ ap (option_map values.Int) h.2
+pub literal_takes : (v : Value) (ts : List Token) → IsLiteral v ts → literal_of number_written ts ≡ Some v
+literal_takes (values.Text t) ts e = ap (literal_of number_written) e
+literal_takes (values.Int n) ts h = ap (literal_of number_written) h.1 ∙ ap (option_map values.Int) h.2
 
 pub literal_free : (v : Value) (stop : Stop) (ts : List Token) → IsLiteral v ts → Free stop ts
 literal_free (values.Text t) stop ts e = text_free t stop ts e
@@ -70,13 +70,13 @@ pub column_free : (c : ColDef) (stop : Stop) (ts : List Token) → IsColumn c ts
 column_free c stop ts h =
     free_seq (IsName c.name) (IsKind c.kind) stop (name_free c.name stop) (kind_free c.kind stop) ts h
 
-pub set_takes : (s : RawSet) (ts : List Token) → IsSet s ts → set_of number_of ts ≡ Some s
+pub set_takes : (s : RawSet) (ts : List Token) → IsSet s ts → set_of number_written ts ≡ Some s
 unfolding set_of
 set_takes s ts h =
     let i = h.4 in
     then_some (name_at ts) (s.col, h.1) _ s (name_takes s.col (IsToken Eq ▸ IsLiteral s.to) ts h)
     (then_some (equals_at h.1) i.1 _ s (ap equals_at (head_is h.1 i.0 i.1 Eq i.2 i.3))
-    (then_some (literal_of number_of i.1) s.to _ s (literal_takes s.to i.1 i.4) refl))
+    (then_some (literal_of number_written i.1) s.to _ s (literal_takes s.to i.1 i.4) refl))
 
 pub set_free : (s : RawSet) (stop : Stop) (ts : List Token) → IsSet s ts → Free stop ts
 set_free s stop ts h =
@@ -135,7 +135,7 @@ literal_begins : (v : Value) (ts : List Token) → IsLiteral v ts → begins_wit
 literal_begins (values.Text t) ts e = ap begins_with_word e
 literal_begins (values.Int n) ts h = ap begins_with_word h.1
 
-side_takes : (IsCol : RawCol → List Token → Type 0) (column : List Token → Option RawCol) → ((c : RawCol) (ts : List Token) → IsCol c ts → column ts ≡ Some c) → ((c : RawCol) (ts : List Token) → IsCol c ts → begins_with_word ts ≡ true) → (s : RawSide) (ts : List Token) → IsSide IsCol s ts → side_of column number_of ts ≡ Some s
+side_takes : (IsCol : RawCol → List Token → Type 0) (column : List Token → Option RawCol) → ((c : RawCol) (ts : List Token) → IsCol c ts → column ts ≡ Some c) → ((c : RawCol) (ts : List Token) → IsCol c ts → begins_with_word ts ≡ true) → (s : RawSide) (ts : List Token) → IsSide IsCol s ts → side_of column number_written ts ≡ Some s
 unfolding side_of
 side_takes IsCol column r b (sides.Col c) ts h =
     cond-true (begins_with_word ts) _ _ (b c ts h) ∙ ap (option_map sides.Col) (r c ts h)
@@ -157,22 +157,22 @@ test_free stop c ts h = cond_free_by IsBareCol stop (λ x us i. bare_free x stop
 pub cond_free : (stop : Stop) (c : RawCond) (ts : List Token) → IsCond IsFullCol c ts → Free stop ts
 cond_free stop c ts h = cond_free_by IsFullCol stop (λ x us i. full_free x stop us i) c ts h
 
-pub test_takes : (c : RawCond) (ts : List Token) → IsCond IsBareCol c ts → test_of number_of ts ≡ Some c
+pub test_takes : (c : RawCond) (ts : List Token) → IsCond IsBareCol c ts → test_of number_written ts ≡ Some c
 unfolding test_of
 test_takes c ts h =
     let i = h.4 in
     let made : Option (List ℕ) → Option RawCond = λ a. Some (record { left = record { alias = a; col = c.left.col }; cmp = c.cmp; right = c.right }) in
     then_some (name_at ts) (c.left.col, h.1) _ c (ap name_at (head_is ts h.0 h.1 (Word c.left.col) h.2 h.3.1.0) ∙ name_takes_word c.left.col h.1 h.3.1.1)
     (then_some (cmp_at h.1) (c.cmp, i.1) _ c (ap cmp_at (head_is h.1 i.0 i.1 (cmp_token c.cmp) i.2 i.3) ∙ cmp_takes c.cmp i.1)
-    (then_some (side_of bare_of number_of i.1) c.right _ c (side_takes IsBareCol bare_of bare_takes bare_begins c.right i.1 i.4) (ap made (sym h.3.0))))
+    (then_some (side_of bare_of number_written i.1) c.right _ c (side_takes IsBareCol bare_of bare_takes bare_begins c.right i.1 i.4) (ap made (sym h.3.0))))
 
-pub cond_takes : (c : RawCond) (ts : List Token) → IsCond IsFullCol c ts → cond_of number_of ts ≡ Some c
+pub cond_takes : (c : RawCond) (ts : List Token) → IsCond IsFullCol c ts → cond_of number_written ts ≡ Some c
 unfolding cond_of
 cond_takes c ts h =
     let i = h.4 in
     then_some (col_at ts) (c.left, h.1) _ c (full_front c.left (IsToken (cmp_token c.cmp) ▸ IsSide IsFullCol c.right) ts h)
     (then_some (cmp_at h.1) (c.cmp, i.1) _ c (ap cmp_at (head_is h.1 i.0 i.1 (cmp_token c.cmp) i.2 i.3) ∙ cmp_takes c.cmp i.1)
-    (then_some (side_of col_of number_of i.1) c.right _ c (side_takes IsFullCol col_of full_takes full_begins c.right i.1 i.4) refl))
+    (then_some (side_of col_of number_written i.1) c.right _ c (side_takes IsFullCol col_of full_takes full_begins c.right i.1 i.4) refl))
 
 -- a sign and a name begin with a word that isn't 'belief'
 sign_begins : (s : Sign) (rel : List ℕ) (After : List Token → Type 0) (ts : List Token) → (IsSign s ▸ IsName rel ▸ After) ts → (w : List ℕ) × (rest : List Token) × (ts ≡ Word w ∷ rest) × (is_keyword (codes "belief") w ≡ false)
@@ -326,16 +326,16 @@ conds_take IsCol read r f (c ∷ cs) front rest free h = (
   list_takes (IsCond IsCol) (IsKeyword (codes "and")) read stops.And r f and_stops (c ∷ cs) h.1 h.4,
 )
 
-num_takes : (n : ℤ) (ts : List Token) → IsNum n ts → num_of number_of ts ≡ Some n
-num_takes n ts h = ap (num_of number_of) h.1 ∙ h.2
+num_takes : (n : ℤ) (ts : List Token) → IsNumToken n ts → num_of number_written ts ≡ Some n
+num_takes n ts h = ap (num_of number_written) h.1 ∙ h.2
 
-pub key_takes : (key : Option ℤ) (ts : List Token) → IsKey key ts → key_of number_of ts ≡ Some key
+pub key_takes : (key : Option ℤ) (ts : List Token) → IsKeyClause key ts → key_of number_written ts ≡ Some key
 unfolding key_of
-key_takes None ts h = ap (key_of number_of) h
+key_takes None ts h = ap (key_of number_written) h
 key_takes (Some n) ts h =
     let whole = head_is ts h.0 h.1 (Word h.3.0) h.2 h.3.1 in
-    let found = ap (keyword_at (codes "key")) (sym whole) ∙ keyword_takes (codes "key") (IsNum n) ts h in
-    ap (key_of number_of) whole
+    let found = ap (keyword_at (codes "key")) (sym whole) ∙ keyword_takes (codes "key") (IsNumToken n) ts h in
+    ap (key_of number_written) whole
     ∙ then_some (keyword_at (codes "key") (Word h.3.0 ∷ h.1)) h.1 _ (Some n) found (ap (option_map (λ m. Some m)) (num_takes n h.1 h.4))
 
 -- what stands in parentheses, and what stands behind them

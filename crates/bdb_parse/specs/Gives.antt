@@ -4,7 +4,7 @@ use Rattle.bdb_parse.specs.declared.error.ParseError.{ParseError}
 use Rattle.bdb_parse.specs.declared.error.ParseError.TheVariants.{Syntax, Number, Memory}
 use Rattle.bdb_parse.specs.declared.wide.Wide.{Wide}
 use Rattle.bdb_parse.specs.declared.wide.Wide.TheVariants.{Refused, Zero}
-use Rattle.bdb_parse.specs.Numbers.{number_of, is_i64}
+use Rattle.bdb_parse.specs.Numbers.{number_written, is_i64}
 use Rattle.bdb_parse.specs.Reading.{◌>>=◌}
 
 -- an error where nothing is read, or where memory ran out
@@ -29,4 +29,4 @@ narrow wide n = if is_i64 n then Some n else wide_number wide
 
 -- the number that a spelling writes, where this reading has one
 abbrev pub number_in : Wide → List ℕ → Option ℤ
-number_in wide spelling = number_of spelling >>= narrow wide
+number_in wide spelling = number_written spelling >>= narrow wide

@@ -23,7 +23,7 @@ use Rattle.bdb_syntax.specs.declared.command.RawQuery.{RawQuery}
 use Rattle.bdb_syntax.specs.declared.command.Command.{Command}
 use Rattle.bdb_syntax.specs.declared.command.Command.TheVariants.{CreateUser, DropUser, CreateRelation, Insert, Delete, Update, Select, Explain, ShowWorld, Why, ShowTables, Undo, Redo}
 use Rattle.bdb_syntax.specs.Keywords.{is_keyword, is_reserved}
-use Rattle.bdb_parse.specs.Numbers.{number_of}
+use Rattle.bdb_parse.specs.Numbers.{number_written}
 
 infixr 5 ◌▸◌
 -- one after the other
@@ -47,13 +47,13 @@ abbrev pub IsName : List ℕ → List Token → Type 0
 IsName name ts = (ts ≡ Word name ∷ []) × (is_reserved name ≡ false)
 
 -- a number
-abbrev pub IsNum : ℤ → List Token → Type 0
-IsNum n ts = (spelling : List ℕ) × (ts ≡ Num spelling ∷ []) × (number_of spelling ≡ Some n)
+abbrev pub IsNumToken : ℤ → List Token → Type 0
+IsNumToken n ts = (spelling : List ℕ) × (ts ≡ Num spelling ∷ []) × (number_written spelling ≡ Some n)
 
 -- a text or a number
 abbrev pub IsLiteral : Value → List Token → Type 0
 IsLiteral (values.Text t) ts = ts ≡ Text t ∷ []
-IsLiteral (values.Int n) ts = IsNum n ts
+IsLiteral (values.Int n) ts = IsNumToken n ts
 
 -- each of these, one or more, with a separator between two
 abbrev pub AreSeparated : {X : Type 0} → (X → List Token → Type 0) → (List Token → Type 0) → List X → List Token → Type 0
@@ -85,9 +85,9 @@ abbrev pub IsColumn : ColDef → List Token → Type 0
 IsColumn c = IsName c.name ▸ IsKind c.kind
 
 -- 'key' and the length of a key, or nothing where it isn't said
-abbrev pub IsKey : Option ℤ → List Token → Type 0
-IsKey None = IsNothing
-IsKey (Some length) = IsKeyword (codes "key") ▸ IsNum length
+abbrev pub IsKeyClause : Option ℤ → List Token → Type 0
+IsKeyClause None = IsNothing
+IsKeyClause (Some length) = IsKeyword (codes "key") ▸ IsNumToken length
 
 -- the token of a comparison
 abbrev pub cmp_token : Cmp → Token
@@ -167,7 +167,7 @@ IsCommand ts (DropUser name) =
     (IsKeyword (codes "drop") ▸ IsKeyword (codes "user") ▸ IsToken (Text name)) ts
 IsCommand ts (CreateRelation name cols key) =
     (IsKeyword (codes "create") ▸ IsKeyword (codes "relation") ▸ IsName name
-    ▸ IsToken ParenL ▸ AreSeparated IsColumn (IsToken Comma) cols ▸ IsToken ParenR ▸ IsKey key) ts
+    ▸ IsToken ParenL ▸ AreSeparated IsColumn (IsToken Comma) cols ▸ IsToken ParenR ▸ IsKeyClause key) ts
 IsCommand ts (Insert users sign rel vals) =
     (IsKeyword (codes "insert") ▸ IsKeyword (codes "into") ▸ IsSigned users sign rel vals) ts
 IsCommand ts (Delete users sign rel conds) =

@@ -18,8 +18,8 @@ abbrev pub is_number : List ℕ → Bool
 is_number spelling = are_digits (without_minus spelling)
 
 -- the number that a spelling writes; leading zeros change nothing, and '-0' is 0
-abbrev pub number_of : List ℕ → Option ℤ
-number_of spelling = if is_number spelling then Some (signed_digits_value 10 spelling) else None
+abbrev pub number_written : List ℕ → Option ℤ
+number_written spelling = if is_number spelling then Some (signed_digits_value 10 spelling) else None
 
 -- a number is in i64
 abbrev pub is_i64 : ℤ → Bool

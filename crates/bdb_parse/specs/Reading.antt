@@ -27,7 +27,7 @@ use Rattle.bdb_parse.specs.declared.stop.Stop.{Stop}
 use Rattle.bdb_parse.specs.declared.stop.Stop.TheVariants as stops
 use Rattle.bdb_parse.specs.declared.target.Target.{Target}
 use Rattle.bdb_syntax.specs.Keywords.{is_keyword, is_reserved}
-use Rattle.bdb_parse.specs.Numbers.{number_of}
+use Rattle.bdb_parse.specs.Numbers.{number_written}
 use Rattle.bdb_parse.specs.Stops.{cut, parts}
 
 infixl 10 ◌>>=◌
@@ -400,4 +400,4 @@ command_by number ts = do
 
 -- the command of these tokens, with literals of any whole number; none outside the grammar
 unfoldable pub command_of : List Token → Option Command
-command_of ts = command_by number_of ts
+command_of ts = command_by number_written ts

@@ -31,7 +31,7 @@ use Rattle.bdb_queries.specs.Slots.{slot_at, known, known_operand, must_hold, kn
 use Rattle.bdb_queries.proofs.FoundLemmas.{Found, found_with, option_map_some}
 use Rattle.bdb_plan.specs.declared.step.Step.{Step}
 use Rattle.bdb_plan.specs.declared.step.Step.TheVariants as step
-use Rattle.bdb_plan.specs.Fitness.{Fields, Placed, is_among, is_set, operand_is_set, who_is_set, is_new, comes_next, is_walked, is_whole, at_width, placed_if, with_user, with_walk, with_tuple, with_column, with_all_bound, placed_after, fits_from, at_first}
+use Rattle.bdb_plan.specs.Fitness.{PlanFields, SetSoFar, is_among, is_set, operand_is_set, who_is_set, is_new, comes_next, is_walked, is_whole, at_width, placed_if, with_user, with_walk, with_tuple, with_column, with_all_bound, placed_after, fits_from, at_first}
 use Rattle.bdb_plan.specs.Holding.{differ, world_if, world_after, world_at_end, IsPlanRow}
 use Rattle.bdb_plan.specs.PlanLaws.{MeaningIsChoices}
 use Rattle.bdb_plan.specs.Running.{Reached, with_world, with_slot, plus_tuples, with_value, reached_if, denied, decided, choices, after, rows_from, start_of, meaning_of}
@@ -40,7 +40,7 @@ use Rattle.bdb_plan.proofs.StandLemmas.{Stands, Above, above_itself, known_same,
 
 -- ---- small facts
 
-pub placed_tells : (t : Bool) (p p' : Placed) → placed_if t p ≡ Some p' → (t ≡ true) × (p ≡ p')
+pub placed_tells : (t : Bool) (p p' : SetSoFar) → placed_if t p ≡ Some p' → (t ≡ true) × (p ≡ p')
 placed_tells true p p' e = (refl, cc)
 placed_tells false p p' e = cc
 
@@ -100,21 +100,21 @@ plus_is_row rows t =
 
 -- ---- what the two readings share
 
-abbrev StandsAt : ℕ → Placed → List (Option Tuple) → Type 0
+abbrev StandsAt : ℕ → SetSoFar → List (Option Tuple) → Type 0
 StandsAt n p slots = Stands n p.items p.bound slots
 
-abbrev AboveAt : Placed → List (Option Tuple) → List (Option Tuple) → Type 0
+abbrev AboveAt : SetSoFar → List (Option Tuple) → List (Option Tuple) → Type 0
 AboveAt p slots zs = Above p.items p.bound slots zs
 
 -- a walk is that of an item, and something else holds
-walked_tells : (p : Placed) (item : ℕ) (t : Bool) → is_walked p.walk item && t ≡ true → t ≡ true
+walked_tells : (p : SetSoFar) (item : ℕ) (t : Bool) → is_walked p.walk item && t ≡ true → t ≡ true
 walked_tells p item t h = (and_parts (is_walked p.walk item) t h).1
 
 -- the items for which a user is chosen stay set
-users_stay : (n : ℕ) (w : ℕ → ℕ → Bool) (p p' : Placed) (x : Step) → UsersAreSet p → placed_after n w p x ≡ Some p' → UsersAreSet p'
+users_stay : (n : ℕ) (w : ℕ → ℕ → Bool) (p p' : SetSoFar) (x : Step) → UsersAreSet p → placed_after n w p x ≡ Some p' → UsersAreSet p'
 users_stay n w p p' x u e = by x e
   where
-    same : (t : Bool) (r : Placed) → placed_if t r ≡ Some p' → UsersAreSet r → UsersAreSet p'
+    same : (t : Bool) (r : SetSoFar) → placed_if t r ≡ Some p' → UsersAreSet r → UsersAreSet p'
     same t r e v = subst UsersAreSet (placed_tells t r p' e).1 v
 
     one_more : (item i : ℕ) → is_among p.users i ≡ true → (nat_eq i item || is_among p.items i) ≡ true
@@ -136,12 +136,12 @@ users_stay n w p p' x u e = by x e
     by (step.Neg item rel) e = same (is_walked p.walk item && is_whole n w p p.bound item rel) (with_all_bound p item) e (one_more item)
     by (step.Test c) e = same (is_set p c.left && operand_is_set p c.right) p e u
 
-test_same : (n : ℕ) (p : Placed) (slots zs : List (Option Tuple)) → UsersAreSet p → StandsAt n p slots → AboveAt p slots zs → (c : Cond) → is_set p c.left && operand_is_set p c.right ≡ true → must_hold zs c ≡ must_hold slots c
+test_same : (n : ℕ) (p : SetSoFar) (slots zs : List (Option Tuple)) → UsersAreSet p → StandsAt n p slots → AboveAt p slots zs → (c : Cond) → is_set p c.left && operand_is_set p c.right ≡ true → must_hold zs c ≡ must_hold slots c
 test_same n p slots zs u s a c h =
     let k = and_parts (is_set p c.left) (operand_is_set p c.right) h in
     ap (λ x. compare_so c.cmp x (known_operand zs c.right)) (known_same n p slots zs u s a c.left k.0) ∙ ap (compare_so c.cmp (known slots c.left)) (operand_same n p slots zs u s a c.right k.1)
 
-row_same : (n : ℕ) (p : Placed) (slots zs : List (Option Tuple)) → UsersAreSet p → StandsAt n p slots → AboveAt p slots zs → (take : List Ref) → list_all (is_set p) take ≡ true → known_row zs take ≡ known_row slots take
+row_same : (n : ℕ) (p : SetSoFar) (slots zs : List (Option Tuple)) → UsersAreSet p → StandsAt n p slots → AboveAt p slots zs → (take : List Ref) → list_all (is_set p) take ≡ true → known_row zs take ≡ known_row slots take
 row_same n p slots zs u s a [] h = refl
 row_same n p slots zs u s a (r ∷ rs) h =
     let k = and_parts (is_set p r) (list_all (is_set p) rs) h in
@@ -154,15 +154,15 @@ equality_holds zs r o v a b = ap (λ x. compare_so (equality r o).cmp x (known_o
 -- ---- from a run to choices for all items
 
 -- a step of a run is one that holds of each choice above what it leads to
-record Goes (sight : Sight) (n : ℕ) (p : Placed) (s : Reached) (x : Step) (p' : Placed) (s' : Reached) : Type 0 where
+record Goes (sight : Sight) (n : ℕ) (p : SetSoFar) (s : Reached) (x : Step) (p' : SetSoFar) (s' : Reached) : Type 0 where
   stands : Stands n p'.items p'.bound s'.slots
   back : (zs : List (Option Tuple)) → Above p'.items p'.bound s'.slots zs → Above p.items p.bound s.slots zs × (world_after sight zs s.world x ≡ Some s'.world)
 
-goes_plain : (sight : Sight) (n : ℕ) (p : Placed) (s : Reached) (x : Step) (w : ℕ) → StandsAt n p s.slots
+goes_plain : (sight : Sight) (n : ℕ) (p : SetSoFar) (s : Reached) (x : Step) (w : ℕ) → StandsAt n p s.slots
     → ((zs : List (Option Tuple)) → AboveAt p s.slots zs → world_after sight zs s.world x ≡ Some w) → Goes sight n p s x p (with_world s w)
 goes_plain sight n p s x w st h = record { stands = st; back = λ zs a. (a, h zs a) }
 
-goes_choice : (sight : Sight) (n : ℕ) (p : Placed) (users : List ℕ) (s : Reached) (x : Step) (item : ℕ) (t : Tuple) → StandsAt n p s.slots → is_new n p item ≡ true
+goes_choice : (sight : Sight) (n : ℕ) (p : SetSoFar) (users : List ℕ) (s : Reached) (x : Step) (item : ℕ) (t : Tuple) → StandsAt n p s.slots → is_new n p item ≡ true
     → ((zs : List (Option Tuple)) → slot_at zs item ≡ Some t → world_after sight zs s.world x ≡ Some s.world)
     → Goes sight n p s x (record { users = users; items = item ∷ p.items; denied = p.denied; bound = p.bound; walk = p.walk }) (with_slot s item t)
 goes_choice sight n p users s x item t st new h =
@@ -172,7 +172,7 @@ goes_choice sight n p users s x item t st new h =
       back = λ zs a. let k = new_below n p.items p.bound s.slots zs item t st fresh a in (k.0, h zs k.1);
     }
 
-goes_decided : (sight : Sight) (n : ℕ) (p p' : Placed) (s s' : Reached) (x : Step) → UsersAreSet p → StandsAt n p s.slots → choices sight s x ≡ None → placed_after n (at_width sight.width) p x ≡ Some p' → decided sight s x ≡ Some s'
+goes_decided : (sight : Sight) (n : ℕ) (p p' : SetSoFar) (s s' : Reached) (x : Step) → UsersAreSet p → StandsAt n p s.slots → choices sight s x ≡ None → placed_after n (at_width sight.width) p x ≡ Some p' → decided sight s x ≡ Some s'
     → Goes sight n p s x p' s'
 goes_decided sight n p p' s s' (step.User item) us st c f e = cc
 goes_decided sight n p p' s s' (step.Pos item rel) us st c f e = cc
@@ -234,7 +234,7 @@ goes_decided sight n p p' s s' (step.Neg item rel) us st c f e =
         (and_from (nat_eq (length u.vals) (sight.width rel)) (rows_deny sight.keys (sight.rows s.world rel) u) ((Decides-eqb (length u.vals) (sight.width rel)).1 l) h)
 
 -- a choice with which the steps hold, above what is chosen so far, and its row passes
-record Sound (sight : Sight) (take : List Ref) (p : Placed) (xs : List Step) (s : Reached) (q : List Value → Bool) : Type 0 where
+record Sound (sight : Sight) (take : List Ref) (p : SetSoFar) (xs : List Step) (s : Reached) (q : List Value → Bool) : Type 0 where
   slots : List (Option Tuple)
   long : length slots ≡ length s.slots
   above : Above p.items p.bound s.slots slots
@@ -243,7 +243,7 @@ record Sound (sight : Sight) (take : List Ref) (p : Placed) (xs : List Step) (s 
   gives : known_row slots take ≡ Some row
   passes : q row ≡ true
 
-go_back : (sight : Sight) (n : ℕ) (take : List Ref) (p p' : Placed) (s s' : Reached) (x : Step) (xs : List Step) (q : List Value → Bool) → StandsAt n p s.slots → Goes sight n p s x p' s' → Sound sight take p' xs s' q → Sound sight take p (x ∷ xs) s q
+go_back : (sight : Sight) (n : ℕ) (take : List Ref) (p p' : SetSoFar) (s s' : Reached) (x : Step) (xs : List Step) (q : List Value → Bool) → StandsAt n p s.slots → Goes sight n p s x p' s' → Sound sight take p' xs s' q → Sound sight take p (x ∷ xs) s q
 go_back sight n take p p' s s' x xs q st g h =
     let k = g.back h.slots h.above in
     record {
@@ -257,14 +257,14 @@ go_back sight n take p p' s s' x xs q st g h =
     }
 
 -- what steps fit after one that fits
-pub fits_one : (n : ℕ) (w : ℕ → ℕ → Bool) (take : List Ref) (o : Option Placed) (xs : List Step) → fits_from n w take o xs ≡ true → (p' : Placed) × (o ≡ Some p') × (fits_from n w take (Some p') xs ≡ true)
+pub fits_one : (n : ℕ) (w : ℕ → ℕ → Bool) (take : List Ref) (o : Option SetSoFar) (xs : List Step) → fits_from n w take o xs ≡ true → (p' : SetSoFar) × (o ≡ Some p') × (fits_from n w take (Some p') xs ≡ true)
 fits_one n w take None xs h = absurd (false≢true h)
 fits_one n w take (Some p') xs h = (p', refl, h)
 
 abbrev Runs : Sight → ℕ → List Ref → List Step → (List Value → Bool) → Type 0
-Runs sight n take xs q = (p : Placed) (s : Reached) → UsersAreSet p → fits_from n (at_width sight.width) take (Some p) xs ≡ true → Stands n p.items p.bound s.slots → list_any q (rows_from sight take xs s) ≡ true → Sound sight take p xs s q
+Runs sight n take xs q = (p : SetSoFar) (s : Reached) → UsersAreSet p → fits_from n (at_width sight.width) take (Some p) xs ≡ true → Stands n p.items p.bound s.slots → list_any q (rows_from sight take xs s) ≡ true → Sound sight take p xs s q
 
-run_decided : (sight : Sight) (n : ℕ) (take : List Ref) (x : Step) (xs : List Step) (q : List Value → Bool) → Runs sight n take xs q → (p p' : Placed) (s : Reached) → UsersAreSet p → StandsAt n p s.slots → choices sight s x ≡ None
+run_decided : (sight : Sight) (n : ℕ) (take : List Ref) (x : Step) (xs : List Step) (q : List Value → Bool) → Runs sight n take xs q → (p p' : SetSoFar) (s : Reached) → UsersAreSet p → StandsAt n p s.slots → choices sight s x ≡ None
     → placed_after n (at_width sight.width) p x ≡ Some p' → fits_from n (at_width sight.width) take (Some p') xs ≡ true → list_any q (flat_map (rows_from sight take xs) (option_list (decided sight s x))) ≡ true
     → Sound sight take p (x ∷ xs) s q
 run_decided sight n take x xs q rest p p' s us st c f g h =
@@ -331,18 +331,18 @@ run_sound sight n take (step.Test c ∷ xs) q p s us f st h =
 -- ---- from choices for all items to a run
 
 -- where a step leads that holds of a choice for all items
-record Reaches (sight : Sight) (n : ℕ) (p' : Placed) (s : Reached) (x : Step) (zs : List (Option Tuple)) (w : ℕ) : Type 0 where
+record Reaches (sight : Sight) (n : ℕ) (p' : SetSoFar) (s : Reached) (x : Step) (zs : List (Option Tuple)) (w : ℕ) : Type 0 where
   state : Reached
   world : state.world ≡ w
   stands : Stands n p'.items p'.bound state.slots
   above : Above p'.items p'.bound state.slots zs
   there : (F : Reached → List (List Value)) (q : List Value → Bool) → list_any q (F state) ≡ true → list_any q (flat_map F (after sight s x)) ≡ true
 
-reaches_plain : (sight : Sight) (n : ℕ) (p : Placed) (s : Reached) (x : Step) (zs : List (Option Tuple)) (w w' : ℕ) → StandsAt n p s.slots → AboveAt p s.slots zs → w ≡ w'
+reaches_plain : (sight : Sight) (n : ℕ) (p : SetSoFar) (s : Reached) (x : Step) (zs : List (Option Tuple)) (w w' : ℕ) → StandsAt n p s.slots → AboveAt p s.slots zs → w ≡ w'
     → ((F : Reached → List (List Value)) (q : List Value → Bool) → list_any q (F (with_world s w)) ≡ true → list_any q (flat_map F (after sight s x)) ≡ true) → Reaches sight n p s x zs w'
 reaches_plain sight n p s x zs w w' st a e h = record { state = with_world s w; world = e; stands = st; above = a; there = h }
 
-reaches : (sight : Sight) (n : ℕ) (p p' : Placed) (s : Reached) (x : Step) (zs : List (Option Tuple)) (w : ℕ) → UsersAreSet p → StandsAt n p s.slots → AboveAt p s.slots zs → placed_after n (at_width sight.width) p x ≡ Some p'
+reaches : (sight : Sight) (n : ℕ) (p p' : SetSoFar) (s : Reached) (x : Step) (zs : List (Option Tuple)) (w : ℕ) → UsersAreSet p → StandsAt n p s.slots → AboveAt p s.slots zs → placed_after n (at_width sight.width) p x ≡ Some p'
     → world_after sight zs s.world x ≡ Some w → Reaches sight n p' s x zs w
 reaches sight n p p' s (step.User item) zs w us st a f e =
     let k = placed_tells (is_new n p item) (with_user p item) p' f in
@@ -454,7 +454,7 @@ end_of sight zs xs None h = absurd (false≢true h)
 end_of sight zs xs (Some w) h = (w, refl, h)
 
 pub run_whole : (sight : Sight) (n : ℕ) (take : List Ref) (xs : List Step) (q : List Value → Bool) (zs : List (Option Tuple)) (row : List Value) → known_row zs take ≡ Some row → q row ≡ true
-    → (p : Placed) (s : Reached) → UsersAreSet p → fits_from n (at_width sight.width) take (Some p) xs ≡ true → Stands n p.items p.bound s.slots → Above p.items p.bound s.slots zs → is_some (world_at_end sight zs s.world xs) ≡ true
+    → (p : SetSoFar) (s : Reached) → UsersAreSet p → fits_from n (at_width sight.width) take (Some p) xs ≡ true → Stands n p.items p.bound s.slots → Above p.items p.bound s.slots zs → is_some (world_at_end sight zs s.world xs) ≡ true
     → list_any q (rows_from sight take xs s) ≡ true
 run_whole sight n take [] q zs row e g p s us f st a h =
     let is : known_row s.slots take ≡ Some row = sym (row_same n p s.slots zs us st a take f) ∙ e in
@@ -481,7 +481,7 @@ nothing_stands : (n : ℕ) → Stands n [] None (replicate n None)
 nothing_stands n = record { long = long_none n; empty = λ i a b. get_none n i; bound = tt }
 
 -- a row comes of a run exactly where it is one of a choice for all items with which each step holds
-pub meaning_is_choices : (sight : Sight) (p : Fields) → fits_from p.items (at_width sight.width) p.take (Some at_first) p.steps ≡ true → (row : List Value)
+pub meaning_is_choices : (sight : Sight) (p : PlanFields) → fits_from p.items (at_width sight.width) p.take (Some at_first) p.steps ≡ true → (row : List Value)
     → (is_member row_cmp (meaning_of sight p) row ≡ true) ↔ IsPlanRow sight p row
 meaning_is_choices sight p f row =
     let q : List Value → Bool = λ x. is_eq (row_cmp x row) in

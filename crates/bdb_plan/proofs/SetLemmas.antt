@@ -13,7 +13,7 @@ use Rattle.bdb_base.specs.Safety.{operand_columns}
 use Rattle.bdb_base.proofs.ListLemmas.{list_all_weaker}
 use Rattle.bdb_plan.specs.declared.step.Step.{Step}
 use Rattle.bdb_plan.specs.declared.step.Step.TheVariants as step
-use Rattle.bdb_plan.specs.Fitness.{Placed, is_among, has_bound, was_bound, is_known, is_set, operand_is_set, who_is_set, is_new, comes_next, is_walked, is_whole, with_user, with_walk, with_tuple, with_column, bound_count, with_all_bound, placed_after, fits_from, at_first}
+use Rattle.bdb_plan.specs.Fitness.{SetSoFar, is_among, has_bound, was_bound, is_known, is_set, operand_is_set, who_is_set, is_new, comes_next, is_walked, is_whole, with_user, with_walk, with_tuple, with_column, bound_count, with_all_bound, placed_after, fits_from, at_first}
 use Rattle.bdb_plan.specs.Naming.{sets_column, chooses_user, columns_named, users_named, who_items, are_set, are_chosen, PlansNameWhatIsSet}
 use Rattle.bdb_plan.proofs.RunLemmas.{placed_tells, fits_one}
 
@@ -60,12 +60,12 @@ user_is_set r l (step.Test c) h = absurd (false≢true h)
 same_item : (i j k : ℕ) → nat_eq i j ≡ true → nat_eq j k ≡ true → nat_eq i k ≡ true
 same_item i j k h g = grind (arith, nat_tests)
 
-record Told (done : List Step) (p : Placed) : Type 0 where
+record Told (done : List Step) (p : SetSoFar) : Type 0 where
   users : (i : ℕ) → is_among p.users i ≡ true → list_any (chooses_user i) done ≡ true
   items : (r : Ref) → is_among p.users r.item ≡ false → is_among p.items r.item ≡ true → was_bound p.denied r ≡ true → list_any (sets_column r) done ≡ true
   bound : (r : Ref) → has_bound p.bound r ≡ true → list_any (sets_column r) done ≡ true
 
-column_told : (done : List Step) (p : Placed) → Told done p → (r : Ref) → is_set p r ≡ true → list_any (sets_column r) done ≡ true
+column_told : (done : List Step) (p : SetSoFar) → Told done p → (r : Ref) → is_set p r ≡ true → list_any (sets_column r) done ≡ true
 column_told done p t r h = elim (or_cases (is_known p r) (has_bound p.bound r) h) [
   | inl k ↦
       let all = is_among p.items r.item && was_bound p.denied r in
@@ -78,14 +78,14 @@ column_told done p t r h = elim (or_cases (is_known p r) (has_bound p.bound r) h
   | inr k ↦ t.bound r k
 ]
 
-kept : (done : List Step) (p : Placed) (walk : Option ℕ) (x : Step) → Told done p → Told (done ++ x ∷ []) (record { users = p.users; items = p.items; denied = p.denied; bound = p.bound; walk = walk })
+kept : (done : List Step) (p : SetSoFar) (walk : Option ℕ) (x : Step) → Told done p → Told (done ++ x ∷ []) (record { users = p.users; items = p.items; denied = p.denied; bound = p.bound; walk = walk })
 kept done p walk x t = record {
   users = λ i h. more (chooses_user i) done x (t.users i h);
   items = λ r a b c. more (sets_column r) done x (t.items r a b c);
   bound = λ r h. more (sets_column r) done x (t.bound r h);
 }
 
-told_next : (n : ℕ) (w : ℕ → ℕ → Bool) (done : List Step) (p p' : Placed) (x : Step) → Told done p → placed_after n w p x ≡ Some p' → Told (done ++ x ∷ []) p'
+told_next : (n : ℕ) (w : ℕ → ℕ → Bool) (done : List Step) (p p' : SetSoFar) (x : Step) → Told done p → placed_after n w p x ≡ Some p' → Told (done ++ x ∷ []) p'
 told_next n w done p p' (step.User item) t e =
     let k = placed_tells (is_new n p item) (with_user p item) p' e in
     let x = step.User item in
@@ -176,15 +176,15 @@ record Named (done : List Step) (x : Step) : Type 0 where
   columns : are_set done (columns_named x) ≡ true
   users : are_chosen done (users_named x) ≡ true
 
-operand_told : (done : List Step) (p : Placed) → Told done p → (o : Operand) → operand_is_set p o ≡ true → are_set done (operand_columns o) ≡ true
+operand_told : (done : List Step) (p : SetSoFar) → Told done p → (o : Operand) → operand_is_set p o ≡ true → are_set done (operand_columns o) ≡ true
 operand_told done p t (Col r) h = and_from (list_any (sets_column r) done) true (column_told done p t r h) refl
 operand_told done p t (Lit v) h = refl
 
-who_told : (done : List Step) (p : Placed) → Told done p → (who : Who) → who_is_set p who ≡ true → are_chosen done (who_items who) ≡ true
+who_told : (done : List Step) (p : SetSoFar) → Told done p → (who : Who) → who_is_set p who ≡ true → are_chosen done (who_items who) ≡ true
 who_told done p t (User uid) h = refl
 who_told done p t (Of item) h = and_from (list_any (chooses_user item) done) true (t.users item h) refl
 
-named : (n : ℕ) (w : ℕ → ℕ → Bool) (done : List Step) (p p' : Placed) (x : Step) → Told done p → placed_after n w p x ≡ Some p' → Named done x
+named : (n : ℕ) (w : ℕ → ℕ → Bool) (done : List Step) (p p' : SetSoFar) (x : Step) → Told done p → placed_after n w p x ≡ Some p' → Named done x
 named n w done p p' (step.User item) t e = record { columns = refl; users = refl }
 named n w done p p' (step.Start item) t e = record { columns = refl; users = refl }
 named n w done p p' (step.Pos item rel) t e = record { columns = refl; users = refl }
@@ -210,7 +210,7 @@ named n w done p p' (step.Test c) t e =
 
 -- ---- a whole plan
 
-named_from : (n : ℕ) (w : ℕ → ℕ → Bool) (take : List Ref) (done before : List Step) (x : Step) (rest : List Step) (p : Placed) → Told done p → fits_from n w take (Some p) (before ++ x ∷ rest) ≡ true → Named (done ++ before) x
+named_from : (n : ℕ) (w : ℕ → ℕ → Bool) (take : List Ref) (done before : List Step) (x : Step) (rest : List Step) (p : SetSoFar) → Told done p → fits_from n w take (Some p) (before ++ x ∷ rest) ≡ true → Named (done ++ before) x
 named_from n w take done [] x rest p t f =
     let g = fits_one n w take (placed_after n w p x) rest f in
     subst (λ xs. Named xs x) (sym (append-nil done)) (named n w done p g.0 x t g.1)
@@ -218,7 +218,7 @@ named_from n w take done (y ∷ ys) x rest p t f =
     let g = fits_one n w take (placed_after n w p y) (ys ++ x ∷ rest) f in
     subst (λ xs. Named xs x) (append_assoc done (y ∷ []) ys) (named_from n w take (done ++ y ∷ []) ys x rest g.0 (told_next n w done p g.0 y t g.1) g.2)
 
-taken_from : (n : ℕ) (w : ℕ → ℕ → Bool) (take : List Ref) (done xs : List Step) (p : Placed) → Told done p → fits_from n w take (Some p) xs ≡ true → are_set (done ++ xs) take ≡ true
+taken_from : (n : ℕ) (w : ℕ → ℕ → Bool) (take : List Ref) (done xs : List Step) (p : SetSoFar) → Told done p → fits_from n w take (Some p) xs ≡ true → are_set (done ++ xs) take ≡ true
 taken_from n w take done [] p t f =
     subst (λ xs. are_set xs take ≡ true) (sym (append-nil done)) (list_all_weaker (is_set p) (λ r. list_any (sets_column r) done) (column_told done p t) take f)
 taken_from n w take done (y ∷ ys) p t f =

@@ -16,7 +16,7 @@ use Rattle.bdb_base.specs.Same.{tuple_of}
 use Rattle.bdb_base.proofs.Numbers.{differs_turned}
 use Rattle.bdb_queries.specs.Slots.{slot_at, known, known_operand, uid_of}
 use Rattle.bdb_queries.proofs.RangeLemmas.{and_then_some}
-use Rattle.bdb_plan.specs.Fitness.{Placed, is_among, is_bound, has_bound, was_bound, is_known, is_set, operand_is_set, who_is_set, is_new, comes_next, is_whole, at_width}
+use Rattle.bdb_plan.specs.Fitness.{SetSoFar, is_among, is_bound, has_bound, was_bound, is_known, is_set, operand_is_set, who_is_set, is_new, comes_next, is_whole, at_width}
 use Rattle.bdb_plan.specs.Running.{with_value}
 
 -- ---- lists
@@ -114,10 +114,10 @@ known_bound n items slots zs (Some b) (t', is', long, apart, within) (t, u, rest
     ∙ sym (ap (λ i. col (slot_at slots i)) item ∙ ap col is)
 
 -- the items for which a user is chosen are set
-abbrev pub UsersAreSet : Placed → Type 0
+abbrev pub UsersAreSet : SetSoFar → Type 0
 UsersAreSet p = (i : ℕ) → is_among p.users i ≡ true → is_among p.items i ≡ true
 
-known_item : (p : Placed) (r : Ref) → UsersAreSet p → is_known p r ≡ true → is_among p.items r.item ≡ true
+known_item : (p : SetSoFar) (r : Ref) → UsersAreSet p → is_known p r ≡ true → is_among p.items r.item ≡ true
 known_item p r u h = elim (cases_Bool (is_among p.users r.item)) [
   | inl e ↦ u r.item e
   | inr e ↦
@@ -125,18 +125,18 @@ known_item p r u h = elim (cases_Bool (is_among p.users r.item)) [
       (and_parts (is_among p.items r.item) (was_bound p.denied r) (sym (cond-false (is_among p.users r.item) (nat_lt r.col 2) all e) ∙ h)).0
 ]
 
-pub known_same : (n : ℕ) (p : Placed) (slots zs : List (Option Tuple)) → UsersAreSet p → Stands n p.items p.bound slots → Above p.items p.bound slots zs → (r : Ref) → is_set p r ≡ true → known zs r ≡ known slots r
+pub known_same : (n : ℕ) (p : SetSoFar) (slots zs : List (Option Tuple)) → UsersAreSet p → Stands n p.items p.bound slots → Above p.items p.bound slots zs → (r : Ref) → is_set p r ≡ true → known zs r ≡ known slots r
 known_same n p slots zs u s a r h = elim (or_cases (is_known p r) (has_bound p.bound r) h) [
   | inl k ↦ ap (option_and_then (λ t. slice_get t.vals r.col)) (a.chosen r.item (known_item p r u k))
   | inr k ↦ known_bound n p.items slots zs p.bound s.bound a.bound r k
 ]
 
-pub operand_same : (n : ℕ) (p : Placed) (slots zs : List (Option Tuple)) → UsersAreSet p → Stands n p.items p.bound slots → Above p.items p.bound slots zs → (o : Operand) → operand_is_set p o ≡ true
+pub operand_same : (n : ℕ) (p : SetSoFar) (slots zs : List (Option Tuple)) → UsersAreSet p → Stands n p.items p.bound slots → Above p.items p.bound slots zs → (o : Operand) → operand_is_set p o ≡ true
     → known_operand zs o ≡ known_operand slots o
 operand_same n p slots zs u s a (Col r) h = known_same n p slots zs u s a r h
 operand_same n p slots zs u s a (Lit v) h = refl
 
-pub who_same : (p : Placed) (slots zs : List (Option Tuple)) → UsersAreSet p → Above p.items p.bound slots zs → (who : Who) → who_is_set p who ≡ true → uid_of zs who ≡ uid_of slots who
+pub who_same : (p : SetSoFar) (slots zs : List (Option Tuple)) → UsersAreSet p → Above p.items p.bound slots zs → (who : Who) → who_is_set p who ≡ true → uid_of zs who ≡ uid_of slots who
 who_same p slots zs u a (User i) h = refl
 who_same p slots zs u a (Of item) h = ap (option_map (λ t. t.rel)) (a.chosen item (u item h))
 
@@ -153,7 +153,7 @@ pub record IsNew (n : ℕ) (items : List ℕ) (o : Option (ℕ × ℕ)) (item : 
   pub apart : is_among items item ≡ false
   pub unbound : is_bound o item ≡ false
 
-pub is_new_tells : (n : ℕ) (p : Placed) (item : ℕ) → is_new n p item ≡ true → IsNew n p.items p.bound item
+pub is_new_tells : (n : ℕ) (p : SetSoFar) (item : ℕ) → is_new n p item ≡ true → IsNew n p.items p.bound item
 is_new_tells n p item h =
     let k = and_parts (nat_lt item n) (not (is_among p.items item) && not (is_bound p.bound item)) h in
     let m = and_parts (not (is_among p.items item)) (not (is_bound p.bound item)) k.1 in
@@ -213,7 +213,7 @@ pub data Before (n : ℕ) (items : List ℕ) (slots : List (Option Tuple)) (item
   first : item < n → is_among items item ≡ false → slot_at slots item ≡ None → col ≡ 0 → Before n items slots item col None
   next : (b : ℕ × ℕ) (t : Tuple) → item ≡ b.0 → col ≡ b.1 → slot_at slots item ≡ Some t → length t.vals ≡ col → is_among items item ≡ false → item < n → Before n items slots item col (Some b)
 
-pub before_of : (n : ℕ) (p : Placed) (slots : List (Option Tuple)) (item col : ℕ) → Stands n p.items p.bound slots → comes_next n p p.bound item col ≡ true → Before n p.items slots item col p.bound
+pub before_of : (n : ℕ) (p : SetSoFar) (slots : List (Option Tuple)) (item col : ℕ) → Stands n p.items p.bound slots → comes_next n p p.bound item col ≡ true → Before n p.items slots item col p.bound
 before_of n p slots item col s h = by p.bound s.bound (λ e u. s.empty item e u) (λ e. is_new_tells n p item e) h
   where
     by : (o : Option (ℕ × ℕ)) → BoundStands n p.items slots o → (is_among p.items item ≡ false → is_bound p.bound item ≡ false → slot_at slots item ≡ None) → (is_new n p item ≡ true → IsNew n p.items p.bound item)
@@ -319,7 +319,7 @@ pub record IsWhole (n : ℕ) (items : List ℕ) (o : Option (ℕ × ℕ)) (slots
   pub apart : is_among items item ≡ false
   pub within : item < n
 
-pub is_whole_tells : (n : ℕ) (width : ℕ → ℕ) (p : Placed) (slots : List (Option Tuple)) (item rel : ℕ) → Stands n p.items p.bound slots → is_whole n (at_width width) p p.bound item rel ≡ true
+pub is_whole_tells : (n : ℕ) (width : ℕ → ℕ) (p : SetSoFar) (slots : List (Option Tuple)) (item rel : ℕ) → Stands n p.items p.bound slots → is_whole n (at_width width) p p.bound item rel ≡ true
     → IsWhole n p.items p.bound slots item (width rel)
 is_whole_tells n width p slots item rel s h = by p.bound s.bound h
   where

@@ -7,7 +7,7 @@ use Rattle.bdb_base.specs.Safety.{equality}
 use Rattle.bdb_queries.specs.Slots.{slot_at, must_hold, known_row, uid_of}
 use Rattle.bdb_plan.specs.declared.step.Step.{Step}
 use Rattle.bdb_plan.specs.declared.step.Step.TheVariants as step
-use Rattle.bdb_plan.specs.Fitness.{Fields}
+use Rattle.bdb_plan.specs.Fitness.{PlanFields}
 use Rattle.bdb_plan.specs.Sight.{Sight, is_user_of, is_plus_row, is_denied}
 
 -- two users are there, and differ
@@ -40,5 +40,5 @@ abbrev pub steps_hold : Sight → List (Option Tuple) → List Step → Bool
 steps_hold sight slots steps = is_some (world_at_end sight slots 0 steps)
 
 -- a row has the columns taken of a choice for each item with which each step holds
-abbrev pub IsPlanRow : Sight → Fields → List Value → Type 0
+abbrev pub IsPlanRow : Sight → PlanFields → List Value → Type 0
 IsPlanRow sight p row = (slots : List (Option Tuple)) × (length slots ≡ p.items) × (steps_hold sight slots p.steps ≡ true) × (known_row slots p.take ≡ Some row)

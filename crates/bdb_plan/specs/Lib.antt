@@ -1,11 +1,13 @@
+-- what the headline is made of, in the order of docs/BELIEVE.md
 pub mod Fitness
-pub mod Sight
-pub mod Holding
-pub mod Running
-pub mod Shown
 pub mod Sources
 pub mod PlanOf
-pub mod PlanLaws
-pub mod Naming
 pub mod PlanText
+-- what other public promises and laws are made of
+pub mod Holding
 pub mod Listings
+pub mod Naming
+pub mod PlanLaws
+pub mod Running
+pub mod Shown
+pub mod Sight

@@ -7,7 +7,7 @@ use Rattle.bdb_base.specs.declared.kinds.Who.TheVariants.{User, Of}
 use Rattle.bdb_base.specs.Safety.{operand_columns}
 use Rattle.bdb_plan.specs.declared.step.Step.{Step}
 use Rattle.bdb_plan.specs.declared.step.Step.TheVariants as step
-use Rattle.bdb_plan.specs.Fitness.{Fields, UsesOnlySet}
+use Rattle.bdb_plan.specs.Fitness.{PlanFields, UsesOnlySet}
 
 -- a step sets a column: `User` the number and the name of its item, `Pos` each column of its item, `Bind` one column
 abbrev pub sets_column : Ref → Step → Bool
@@ -51,10 +51,10 @@ HoldsOfEach fact steps = (before : List Step) (x : Step) (rest : List Step) → 
 
 -- With each step, an earlier one set each column that it names, and an earlier one chose each user that it names; and some step
 -- set each column that is taken.
-pub record NamesWhatIsSet (p : Fields) : Type 0 where
+pub record NamesWhatIsSet (p : PlanFields) : Type 0 where
   pub columns : HoldsOfEach (λ before x. are_set before (columns_named x)) p.steps
   pub users : HoldsOfEach (λ before x. are_chosen before (users_named x)) p.steps
   pub take : are_set p.steps p.take ≡ true
 
 abbrev pub PlansNameWhatIsSet : Type 0
-PlansNameWhatIsSet = (p : Fields) → UsesOnlySet p.items p.steps p.take → NamesWhatIsSet p
+PlansNameWhatIsSet = (p : PlanFields) → UsesOnlySet p.items p.steps p.take → NamesWhatIsSet p

@@ -17,7 +17,7 @@ use Rattle.bdb_base.specs.Queries.{columns_at}
 use Rattle.bdb_base.specs.Safety.{is_given, is_minus, is_users_item}
 use Rattle.bdb_plan.specs.declared.step.Step.{Step}
 use Rattle.bdb_plan.specs.declared.step.Step.TheVariants as step
-use Rattle.bdb_plan.specs.Fitness.{Fields, is_among}
+use Rattle.bdb_plan.specs.Fitness.{PlanFields, is_among}
 use Rattle.bdb_plan.specs.Sources.{source_of}
 
 -- ---- walks
@@ -107,5 +107,5 @@ unfoldable pub plan_steps : List RelDef → Query → List Step
 plan_steps rels q = steps_from rels q [] (order_of q.items)
 
 -- the plan of a query
-abbrev pub plan_of : List RelDef → Query → Fields
+abbrev pub plan_of : List RelDef → Query → PlanFields
 plan_of rels q = record { items = length q.items; steps = plan_steps rels q; take = q.take }

@@ -15,7 +15,7 @@ use Rattle.bdb_base.specs.Queries.{columns_at}
 use Rattle.bdb_base.specs.Texts.{cmp_text, dotted, joined, quoted, value_text, line, user_text}
 use Rattle.bdb_plan.specs.declared.step.Step.{Step}
 use Rattle.bdb_plan.specs.declared.step.Step.TheVariants as step
-use Rattle.bdb_plan.specs.Fitness.{Fields}
+use Rattle.bdb_plan.specs.Fitness.{PlanFields}
 
 -- the alias of an item; empty where there is none
 abbrev pub alias_of : Option Item → List ℕ
@@ -65,9 +65,9 @@ unfoldable pub take_text : Catalog → Query → List Ref → List ℕ
 take_text c q take = codes "take " ++ joined (map (ref_text c q) take)
 
 -- the lines of a plan: one for each step, and the columns taken
-abbrev pub plan_lines : Catalog → Query → Fields → List (List ℕ)
+abbrev pub plan_lines : Catalog → Query → PlanFields → List (List ℕ)
 plan_lines c q p = map (step_text c q) p.steps ++ take_text c q p.take ∷ []
 
 -- the lines of a plan, each with a line feed
-abbrev pub plan_text : Catalog → Query → Fields → List ℕ
+abbrev pub plan_text : Catalog → Query → PlanFields → List ℕ
 plan_text c q p = flat_map line (plan_lines c q p)

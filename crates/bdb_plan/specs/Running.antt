@@ -14,7 +14,7 @@ use Rattle.bdb_base.specs.SortedSet.{sorted_set}
 use Rattle.bdb_queries.specs.Slots.{slot_at, known_operand, must_hold, known_row, uid_of}
 use Rattle.bdb_plan.specs.declared.step.Step.{Step}
 use Rattle.bdb_plan.specs.declared.step.Step.TheVariants as step
-use Rattle.bdb_plan.specs.Fitness.{Fields}
+use Rattle.bdb_plan.specs.Fitness.{PlanFields}
 use Rattle.bdb_plan.specs.Holding.{differ}
 use Rattle.bdb_plan.specs.Sight.{Sight, rows_deny}
 
@@ -82,7 +82,7 @@ abbrev pub start_of : ℕ → Reached
 start_of n = record { world = 0; slots = replicate n None }
 
 -- what a plan means: the rows that come of its steps, in order, each once
-abbrev pub meaning_of : Sight → Fields → List (List Value)
+abbrev pub meaning_of : Sight → PlanFields → List (List Value)
 meaning_of sight p = sorted_set row_cmp (rows_from sight p.take p.steps (start_of p.items))
 
 -- ---- reads

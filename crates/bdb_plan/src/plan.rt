@@ -18,9 +18,9 @@ pub struct Plan {
 }
 
 impl Model for Plan {
-    ghost use Rattle.bdb_plan.specs.Fitness.{Fields, UsesOnlySet};
+    ghost use Rattle.bdb_plan.specs.Fitness.{PlanFields, UsesOnlySet};
 
-    ghost Value = { Fields };
+    ghost Value = { PlanFields };
 
     ghost view = { λ p. record { items = p.items; steps = p.steps; take = p.take } };
 

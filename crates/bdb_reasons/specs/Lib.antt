@@ -1,1 +1,2 @@
+-- what the headline is made of, in the order of docs/BELIEVE.md
 pub mod WhyReplies

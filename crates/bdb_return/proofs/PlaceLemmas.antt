@@ -50,7 +50,7 @@ use Rattle.bdb_catalog.specs.Place as emptied
 use Rattle.bdb_catalog.specs.Place.{LosesUser, MayLoseUser, SomeMayLoseUser}
 use Rattle.bdb_return.specs.Naming.{Leaves, LosesLastUser, LosesName, MayGetName, MayLoseName, SomeMayLeave, SomeMayLoseName, SomeUserIsLast, base_named, WritesLastUser, WritesLeave, WritesLoss}
 use Rattle.bdb_return.specs.Numbers.{IsNextUser, StoreAny}
-use Rattle.bdb_return.specs.Places.{LosesPlace, PlaceKeeps, WritesPlace}
+use Rattle.bdb_return.specs.Places.{LosesPlace, PlaceKeeps, WritesReturned}
 
 -- ---- whom no state names
 
@@ -264,13 +264,13 @@ some_may_lose t uid s = record { base = s.some.base; may = may_lose t uid s.name
 pub user_leaves : (t u : Tables) (uid : ℕ) → LosesUser t u uid → Leaves t u uid
 user_leaves t u uid loses name a h = loses a (may_lose t uid name a h)
 
-pub leave_written : (old new : Seen) (uid : ℕ) → emptied.WritesPlace old new uid → WritesLeave old new uid
+pub leave_written : (old new : Seen) (uid : ℕ) → emptied.WritesEmptied old new uid → WritesLeave old new uid
 leave_written old new uid writes name a h = writes a (may_lose old.kept uid name a h)
 
 -- ---- how often is written
 
 pub place_written : (old mid new : Seen) (uid : ℕ) → mid.kept ≡ tables.remove old.kept (place user_codec uid) → mid.writes ≤ new.writes → RoseBy 1 old.writes mid.writes
-    → WritesDropped mid new uid → WritesPlace old new uid
+    → WritesDropped mid new uid → WritesReturned old new uid
 place_written old mid new uid put le one edges name a last h =
     let users = a.catalog.users in
     let more = users ++ Live name ∷ [] in
@@ -280,7 +280,7 @@ place_written old mid new uid put le one edges name a last h =
     (edges (record { users = is_user more; names = s.names }) (states_before old.kept mid.kept uid None put (is_user more) s.names s.stored.states)
     (record { user = last_is_user users name uid last; unnamed = λ w e. listed_is_named uid w ∙ none w (sym (s.stored.worlds w) ∙ e) }))
 
-pub last_user_written : (old mid new : Seen) (next : ℕ) → mid.kept ≡ old.kept → mid.writes ≡ old.writes → IsNextUser old.kept next → WritesPlace mid new (next - 1) → WritesLastUser old new
+pub last_user_written : (old mid new : Seen) (next : ℕ) → mid.kept ≡ old.kept → mid.writes ≡ old.writes → IsNextUser old.kept next → WritesReturned mid new (next - 1) → WritesLastUser old new
 last_user_written old mid new next same still is writes name a h =
     let e = is (base_named (UserAdded name) a) h.stored in
     let l = length_push a.catalog.users (Live name) in

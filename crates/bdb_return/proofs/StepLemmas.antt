@@ -16,7 +16,7 @@ use Rattle.bdb_undo.specs.declared.change.Change.{Change}
 use Rattle.bdb_undo.specs.declared.change.Named.{Named}
 use Rattle.bdb_undo.specs.declared.change.Named.TheVariants.{Nothing, UserAdded, RelationAdded, UserDropped}
 use Rattle.bdb_undo.proofs.StatementLemmas.{exchanged, left_is_valid_after}
-use Rattle.bdb_update.specs.Calls.{StoresSized, are_apart, with_stmts}
+use Rattle.bdb_update.specs.Calls.{StoresSized, none_comes_again, with_stmts}
 use Rattle.bdb_update.specs.Keeping.{SameNumbers}
 use Rattle.bdb_update.specs.Replacing.{Come, Go, MayCome, MayGo, SomeMayCome, SomeMayGo}
 use Rattle.bdb_update.specs.Steps.{ComesThrough, GoesThrough}
@@ -41,7 +41,7 @@ module _ (from to : Contents) (out inn : List Stmt) (v : IsValid from.catalog fr
       record {
         base = h;
         stand = ap (list_all (stands from.stmts)) goes ∙ taken_stand q from.stmts;
-        apart = ap are_apart goes ∙ taken_apart q from.stmts v.stmts.sorted;
+        apart = ap none_comes_again goes ∙ taken_apart q from.stmts v.stmts.sorted;
       }
 
   -- the statements that are left

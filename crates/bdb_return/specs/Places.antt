@@ -15,8 +15,8 @@ abbrev pub LosesPlace : Tables → Tables → ℕ → Type 0
 LosesPlace t u uid = (name : List ℕ) (a : Contents) → uid ≡ length a.catalog.users + 1 → MayLoseName t (UserAdded name) a → Stores u a
 
 -- two writes were then made for each world, and one
-abbrev pub WritesPlace : Seen → Seen → ℕ → Type 0
-WritesPlace old new uid = (name : List ℕ) (a : Contents) → uid ≡ length a.catalog.users + 1 → MayLoseName old.kept (UserAdded name) a → Rises (2 * world_count a.stmts + 1) old.writes new.writes
+abbrev pub WritesReturned : Seen → Seen → ℕ → Type 0
+WritesReturned old new uid = (name : List ℕ) (a : Contents) → uid ≡ length a.catalog.users + 1 → MayLoseName old.kept (UserAdded name) a → Rises (2 * world_count a.stmts + 1) old.writes new.writes
 
 -- numbers of worlds and of tuples then stand for what they stood for
 abbrev pub PlaceKeeps : Tables → Tables → ℕ → Type 0

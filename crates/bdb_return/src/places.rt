@@ -2,7 +2,7 @@
 ghost use Rattle.std.specs.Prelude.{◌≡◌, true, OnOk};
 ghost use Rattle.bdb_return.specs.Naming.{Leaves, LosesLastUser, LosesName, SomeMayLeave, SomeMayLoseName, SomeUserIsLast, WritesLastUser, WritesLeave, WritesLoss};
 ghost use Rattle.bdb_return.specs.Numbers.{StoreAny};
-ghost use Rattle.bdb_return.specs.Places.{LosesPlace, PlaceKeeps, WritesPlace};
+ghost use Rattle.bdb_return.specs.Places.{LosesPlace, PlaceKeeps, WritesReturned};
 ghost use Rattle.bdb_undo.specs.declared.change.Named.TheVariants.{UserDropped};
 ghost use Rattle.bdb_update.specs.Keeping.{SameNumbers};
 ghost use Rattle.bdb_val.specs.Steps.{IsChanging};
@@ -40,7 +40,7 @@ fn drop_place<K: Keeper>(alloc: Global, keeper: &mut K, last: u32) -> Result<(),
     requires running { (K.seen keeper.old).running ≡ true }
     requires base { StoreAny (K.seen keeper.old).kept }
     ensures lost { OnOk result (LosesPlace (K.seen keeper.old).kept (K.seen keeper.new).kept last) }
-    ensures writes { OnOk result (WritesPlace (K.seen keeper.old) (K.seen keeper.new) last) }
+    ensures writes { OnOk result (WritesReturned (K.seen keeper.old) (K.seen keeper.new) last) }
     ensures keeps { OnOk result
         (PlaceKeeps (K.seen keeper.old).kept (K.seen keeper.new).kept last) }
     ensures changing { IsChanging (K.seen keeper.old) (K.seen keeper.new) result TabError.Fault }

@@ -28,7 +28,7 @@ use Rattle.bdb_syntax.specs.declared.command.RawSet.{RawSet}
 use Rattle.bdb_syntax.specs.declared.command.Command.{Command}
 use Rattle.bdb_syntax.specs.declared.command.Command.TheVariants.{CreateUser, CreateRelation, DropUser, Insert, Delete, Update, Select, Explain, ShowWorld, Why, ShowTables, Undo, Redo}
 use Rattle.bdb_syntax.specs.Filled.{is_filled}
-use Rattle.bdb_syntax.specs.Printable.{begins_word, is_in_word, is_word, IsName, IsContent, IsPrintableValue, IsBareCol, IsFullCol, IsPrintableSide, IsPrintableCond, IsPrintableSet, IsPrintableWho, IsPrintableItem, IsPrintableQuery, IsPrintable}
+use Rattle.bdb_syntax.specs.Printable.{begins_word, is_in_word, is_word, IsNameWord, IsContent, IsPrintableValue, IsBareColumn, IsFullColumn, IsPrintableSide, IsPrintableCond, IsPrintableSet, IsPrintableWho, IsPrintableItem, IsPrintableQuery, IsPrintable}
 use Rattle.bdb_parse.specs.Spelled.{IsWellSpelled, AreWellSpelled}
 use Rattle.bdb_bind.specs.Parts.{some_text, some_query_text, some_who_text, value_texts, side_texts}
 use Rattle.bdb_bind.specs.Fits.{is_unclean, names_allowed, is_allowed}
@@ -105,7 +105,7 @@ items_are_clean items h = none_pass IsPrintableItem (λ i. list_any (some_who_te
 
 query_is_clean : (q : RawQuery) → IsPrintableQuery q → some_query_text is_unclean q ≡ false
 query_is_clean q h = or_from (list_any (λ i. list_any (some_who_text is_unclean) i.path) q.items) (list_any (λ c. list_any is_unclean (side_texts c.right)) q.conds)
-    (items_are_clean q.items h.1) (conds_are_clean IsFullCol q.conds h.2)
+    (items_are_clean q.items h.1) (conds_are_clean IsFullColumn q.conds h.2)
 
 sets_are_clean : (sets : List RawSet) → AllByRecursion IsPrintableSet sets → list_any (λ s. list_any is_unclean (value_texts s.to)) sets ≡ false
 sets_are_clean sets h = none_pass IsPrintableSet (λ s. list_any is_unclean (value_texts s.to)) (λ s p. value_is_clean s.to p.1) sets h
@@ -131,8 +131,8 @@ word_is_plain (b ∷ w) h =
     (and_from (is_utf8 (b ∷ w)) (list_all (λ c. nat_le 32 c) (b ∷ w)) (utf8_from is_in_word in_word_low (b ∷ w) all)
     (list_all_weaker is_in_word (λ c. nat_le 32 c) in_word_high (b ∷ w) all))
 
-columns_are_plain : (cols : List ColDef) → AllByRecursion (λ (c : ColDef). IsName c.name) cols → list_all (λ c. is_plain c.name) cols ≡ true
-columns_are_plain cols h = all_pass (λ (c : ColDef). IsName c.name) (λ c. is_plain c.name) (λ c n. word_is_plain c.name n.0) cols h
+columns_are_plain : (cols : List ColDef) → AllByRecursion (λ (c : ColDef). IsNameWord c.name) cols → list_all (λ c. is_plain c.name) cols ≡ true
+columns_are_plain cols h = all_pass (λ (c : ColDef). IsNameWord c.name) (λ c. is_plain c.name) (λ c n. word_is_plain c.name n.0) cols h
 
 -- commands
 
@@ -148,10 +148,10 @@ printable_is_allowed (DropUser name) p = allowed (DropUser name) (content_is_cle
 printable_is_allowed (Insert users sign rel vals) p =
     allowed (Insert users sign rel vals) (or_from _ _ (users_are_clean users p.parts.0) (values_are_clean vals p.parts.2)) refl
 printable_is_allowed (Delete users sign rel conds) p =
-    allowed (Delete users sign rel conds) (or_from _ _ (users_are_clean users p.parts.0) (conds_are_clean IsBareCol conds p.parts.2)) refl
+    allowed (Delete users sign rel conds) (or_from _ _ (users_are_clean users p.parts.0) (conds_are_clean IsBareColumn conds p.parts.2)) refl
 printable_is_allowed (Update users sign rel sets conds) p =
     allowed (Update users sign rel sets conds) (or_from _ _ (users_are_clean users p.parts.0)
-    (or_from _ _ (sets_are_clean sets p.parts.2) (conds_are_clean IsBareCol conds p.parts.3))) refl
+    (or_from _ _ (sets_are_clean sets p.parts.2) (conds_are_clean IsBareColumn conds p.parts.3))) refl
 printable_is_allowed (Select query) p = allowed (Select query) (query_is_clean query p.parts) refl
 printable_is_allowed (Explain query) p = allowed (Explain query) (query_is_clean query p.parts) refl
 printable_is_allowed (ShowWorld users) p = allowed (ShowWorld users) (users_are_clean users p.parts) refl

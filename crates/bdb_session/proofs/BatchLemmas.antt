@@ -21,8 +21,8 @@ use Rattle.bdb_session.specs.declared.batch.BatchReply.{BatchReply}
 use Rattle.bdb_session.specs.declared.event.Event.{Event}
 use Rattle.bdb_session.specs.declared.event.Event.TheVariants.{Piece}
 use Rattle.bdb_session.specs.declared.reply.Reply.{Reply}
-use Rattle.bdb_session.specs.declared.stop.StopError.{StopError}
-use Rattle.bdb_session.specs.declared.stop.StopError.TheVariants.{Fault}
+use Rattle.bdb_session.specs.declared.error.StopError.{StopError}
+use Rattle.bdb_session.specs.declared.error.StopError.TheVariants.{Fault}
 use Rattle.bdb_session.proofs.ServedLemmas.{still_agrees, ends_well}
 use Rattle.bdb_session.proofs.WithinLemmas.{cause_later, dropped_is_still, dropped_is_unchanged}
 use Rattle.bdb_session.proofs.BatchLists.{negated, negated_false}

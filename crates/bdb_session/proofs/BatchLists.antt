@@ -13,7 +13,7 @@ use Rattle.bdb_keep.specs.Tables.{Tables}
 use Rattle.bdb_undo.specs.Changes.{Leads, alters}
 use Rattle.bdb_undo.specs.Histories.{Kept, noted}
 use Rattle.bdb_undo.specs.Same.{same_contents}
-use Rattle.bdb_undo.specs.Timelines.{Timeline, StandsFor, started}
+use Rattle.bdb_undo.specs.Timelines.{Timeline, KeepsTimeline, started}
 use Rattle.bdb_undo.specs.declared.change.Change.{Change}
 use Rattle.bdb_undo.proofs.ChangeLemmas.{same_base_alters_nothing}
 use Rattle.bdb_undo.proofs.SameLemmas.{same_contents_are_one, contents_are_their_own}
@@ -28,8 +28,8 @@ use Rattle.bdb_session.specs.declared.batch.BatchReply.{BatchReply}
 use Rattle.bdb_session.specs.declared.news.News.{News}
 use Rattle.bdb_session.specs.declared.event.Event.{Event}
 use Rattle.bdb_session.specs.declared.event.Event.TheVariants.{Piece}
-use Rattle.bdb_session.specs.declared.stop.StopError.{StopError}
-use Rattle.bdb_session.specs.declared.stop.StopError.TheVariants.{Fault}
+use Rattle.bdb_session.specs.declared.error.StopError.{StopError}
+use Rattle.bdb_session.specs.declared.error.StopError.TheVariants.{Fault}
 use Rattle.bdb_session.proofs.FollowLemmas.{agrees_as, agrees_on, still_remembers}
 use Rattle.bdb_session.proofs.ServedLemmas.{still_agrees}
 
@@ -163,16 +163,16 @@ module _ (t : Timeline) (es : List Event) (all : accepts_all (start_from t.now) 
   same_timeline e = cond-false (accepts_all (start_from t.now) es && alters_some (start_from t.now) es) (started last.base) t
       (second_false (accepts_all (start_from t.now) es) (alters_some (start_from t.now) es) all e)
 
-  left_remembers : (u : Tables) (k copy : Known) → Agrees u (taken_over k copy) last → StandsFor k.history t
+  left_remembers : (u : Tables) (k copy : Known) → Agrees u (taken_over k copy) last → KeepsTimeline k.history t
       → is_altered copy ≡ alters_some (start_from t.now) es → Remembers u (taken_over k copy) (batch_timeline t es)
   left_remembers u k copy a h is = elim (cases_Bool (alters_some (start_from t.now) es)) [
     | inl e ↦ subst (λ (x : Timeline). Remembers u (taken_over k copy) x) (sym (altered_timeline e)) (record {
       agrees = agrees_on u (taken_over k copy) last last.base refl a;
-      history = subst (λ (x : Kept). StandsFor x (started last.base)) (sym (ap (λ b. left_by b k.history) (is ∙ e))) (nothing_kept_starts last.base);
+      history = subst (λ (x : Kept). KeepsTimeline x (started last.base)) (sym (ap (λ b. left_by b k.history) (is ∙ e))) (nothing_kept_starts last.base);
     })
     | inr e ↦ subst (λ (x : Timeline). Remembers u (taken_over k copy) x) (sym (same_timeline e)) (record {
       agrees = agrees_on u (taken_over k copy) last t.now (unaltered_stays (start_from t.now) es e) a;
-      history = subst (λ (x : Kept). StandsFor x t) (sym (ap (λ b. left_by b k.history) (is ∙ e))) h;
+      history = subst (λ (x : Kept). KeepsTimeline x t) (sym (ap (λ b. left_by b k.history) (is ∙ e))) h;
     })
   ]
 

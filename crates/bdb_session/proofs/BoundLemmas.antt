@@ -13,7 +13,7 @@ use Rattle.bdb_render.specs.declared.refusal.Refusal.{Refusal}
 use Rattle.bdb_session.specs.Bounds.{ReadsAsTold, RefusedUnwritten, UpdatesThrough, WritesAsTold}
 use Rattle.bdb_session.specs.declared.news.News.{News}
 use Rattle.bdb_session.specs.declared.reply.Reply.{Reply}
-use Rattle.bdb_session.specs.declared.stop.StopError.{StopError}
+use Rattle.bdb_session.specs.declared.error.StopError.{StopError}
 use Rattle.bdb_session.specs.Known.{Known, AgreesOnSome}
 use Rattle.bdb_session.specs.Machine.{refusal_from}
 use Rattle.bdb_session.specs.Within.{nothing_new, sized}

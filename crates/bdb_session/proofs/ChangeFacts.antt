@@ -9,11 +9,11 @@ use Rattle.bdb_canon.specs.declared.sizes.Counts.{Counts}
 use Rattle.bdb_keep.specs.Seen.{Seen, IsDropped, NeverFall}
 use Rattle.bdb_keep.specs.Tables.{Tables}
 use Rattle.bdb_tables.specs.Stored.{Stores}
-use Rattle.bdb_update.specs.Calls.{IsUntouched, HasStopped, HasFailed, size_passed, with_stmts}
+use Rattle.bdb_update.specs.Calls.{IsUnwritten, HasStopped, HasFailed, size_passed, with_stmts}
 use Rattle.bdb_val.proofs.Calls.{HasGone, changing_err}
 use Rattle.bdb_session.specs.declared.reply.Reply.{Reply}
-use Rattle.bdb_session.specs.declared.stop.StopError.{StopError}
-use Rattle.bdb_session.specs.declared.stop.StopError.TheVariants.{Fault, Memory}
+use Rattle.bdb_session.specs.declared.error.StopError.{StopError}
+use Rattle.bdb_session.specs.declared.error.StopError.TheVariants.{Fault, Memory}
 use Rattle.bdb_session.specs.Known.{Known, Agrees}
 use Rattle.bdb_session.specs.Outcome.{State, Outcome}
 use Rattle.bdb_session.specs.Sizes.{passed_limit}
@@ -29,7 +29,7 @@ size_limit b xs valid =
     rw (users, rels) refl
 
 -- where nothing was written, a session agrees with the tables as before
-pub untouched_agrees : (k : Known) (before after : Counts) (old new : Seen) (s : State) → IsUntouched old new before after → Agrees old.kept (sized k before) s → Agrees new.kept (sized k after) s
+pub untouched_agrees : (k : Known) (before after : Counts) (old new : Seen) (s : State) → IsUnwritten old new before after → Agrees old.kept (sized k before) s → Agrees new.kept (sized k after) s
 untouched_agrees k before after old new s u a = record {
   base = record { stored = subst (λ (t : Tables). Stores t s.base) (sym u.kept) a.base.stored; valid = a.base.valid };
   catalog = a.catalog;

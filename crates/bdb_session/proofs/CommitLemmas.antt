@@ -6,8 +6,8 @@ use Rattle.bdb_keep.specs.Seen.{Seen, IsStill, NeverFall, IsDropped, Steps}
 use Rattle.bdb_tables.proofs.Loops.{counts_then}
 use Rattle.bdb_tables.specs.declared.tab.TabError.{TabError}
 use Rattle.bdb_tables.specs.declared.tab.TabError.TheVariants as tab
-use Rattle.bdb_session.specs.declared.stop.StopError.{StopError}
-use Rattle.bdb_session.specs.declared.stop.StopError.TheVariants.{Fault}
+use Rattle.bdb_session.specs.declared.error.StopError.{StopError}
+use Rattle.bdb_session.specs.declared.error.StopError.TheVariants.{Fault}
 use Rattle.bdb_session.specs.Committing.{IsCommitted}
 use Rattle.bdb_session.proofs.WithinLemmas.{dropped_is_unchanged, dropped_is_still}
 

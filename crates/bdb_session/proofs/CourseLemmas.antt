@@ -13,7 +13,7 @@ use Rattle.bdb_session.specs.Known.{Known}
 use Rattle.bdb_session.specs.Undoing.{course_of_command}
 use Rattle.bdb_session.specs.declared.course.Course.TheVariants.{Back, Forth}
 use Rattle.bdb_session.specs.declared.reply.Reply.{Reply}
-use Rattle.bdb_session.specs.declared.stop.StopError.{StopError}
+use Rattle.bdb_session.specs.declared.error.StopError.{StopError}
 
 is_undo : (c : Command) → course_of_command c ≡ Back → c ≡ Undo
 is_undo (CreateUser name) e = absurd cc

@@ -26,7 +26,7 @@ use Rattle.bdb_session.specs.Machine.{bound_outcome, with_catalog}
 use Rattle.bdb_session.specs.Outcome.{State, Refused, Done}
 use Rattle.bdb_session.specs.Sizes.{limit_passed, passed_limit}
 use Rattle.bdb_session.specs.declared.reply.Reply.{Reply}
-use Rattle.bdb_session.specs.declared.stop.StopError.{StopError}
+use Rattle.bdb_session.specs.declared.error.StopError.{StopError}
 use Rattle.bdb_session.specs.Within.{IsSaid, TellsChange, TellsWithin}
 use Rattle.bdb_session.proofs.CatalogLemmas.{user_is_valid, relation_is_valid}
 use Rattle.bdb_session.proofs.LimitLemmas.{limit_is, at_most, past}

@@ -22,12 +22,12 @@ use Rattle.bdb_tables.specs.Stored.{Stores}
 use Rattle.bdb_undo.specs.declared.change.Change.{Change}
 use Rattle.bdb_undo.specs.declared.change.Named.TheVariants.{Nothing}
 use Rattle.bdb_undo.proofs.ChangeLemmas.{takes_lead}
-use Rattle.bdb_update.specs.Calls.{StoresSized, are_apart, with_stmts}
+use Rattle.bdb_update.specs.Calls.{StoresSized, none_comes_again, with_stmts}
 use Rattle.bdb_update.specs.Replacing.{MayGo, SomeMayGo, Go}
 use Rattle.bdb_update.proofs.TakenLemmas.{others_are_left, taken_apart, taken_stand}
 use Rattle.bdb_val.proofs.Calls.{HasGone}
 use Rattle.bdb_session.specs.declared.reply.Reply.{Reply}
-use Rattle.bdb_session.specs.declared.stop.StopError.{StopError}
+use Rattle.bdb_session.specs.declared.error.StopError.{StopError}
 use Rattle.bdb_session.specs.Known.{Known, Agrees, AgreesOnSome}
 use Rattle.bdb_session.specs.Machine.{bound_outcome}
 use Rattle.bdb_session.specs.Noting.{made_of}
@@ -67,8 +67,8 @@ module _ (k : Known) (before : Counts) (t u : Tables) (w : List ℕ) (sign : Sig
   pub gone_stand : (s : State) → Agrees t (sized k before) s → list_all (stands s.base.stmts) gone ≡ true
   gone_stand s a = ap (list_all (stands s.base.stmts)) (gone_is s a) ∙ taken_stand (is_taken w sign rel conds) s.base.stmts
 
-  pub gone_apart : (s : State) → Agrees t (sized k before) s → are_apart gone ≡ true
-  gone_apart s a = ap are_apart (gone_is s a) ∙ taken_apart (is_taken w sign rel conds) s.base.stmts a.base.valid.stmts.sorted
+  pub gone_apart : (s : State) → Agrees t (sized k before) s → none_comes_again gone ≡ true
+  gone_apart s a = ap none_comes_again (gone_is s a) ∙ taken_apart (is_taken w sign rel conds) s.base.stmts a.base.valid.stmts.sorted
 
   pub left_is : (s : State) → Agrees t (sized k before) s → without_statements s.base.stmts gone ≡ without_taken w sign rel conds s.base.stmts
   left_is s a = ap (without_statements s.base.stmts) (gone_is s a) ∙ others_are_left (is_taken w sign rel conds) s.base.stmts a.base.valid.stmts.sorted

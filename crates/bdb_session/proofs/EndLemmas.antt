@@ -13,8 +13,8 @@ use Rattle.bdb_session.specs.QueryReads.{ReadsAsBounded}
 use Rattle.bdb_session.specs.Telling.{ReadsWithin, WritesNothing, world_reads, why_reads}
 use Rattle.bdb_session.specs.Within.{IsKept, IsUndone, Closes}
 use Rattle.bdb_session.specs.declared.reply.Reply.{Reply}
-use Rattle.bdb_session.specs.declared.stop.StopError.{StopError}
-use Rattle.bdb_session.specs.declared.stop.StopError.TheVariants.{Fault}
+use Rattle.bdb_session.specs.declared.error.StopError.{StopError}
+use Rattle.bdb_session.specs.declared.error.StopError.TheVariants.{Fault}
 use Rattle.bdb_session.proofs.ServedLemmas.{still_agrees}
 use Rattle.bdb_session.proofs.StepLemmas.{delete_closes, leave_closes, update_closes}
 use Rattle.bdb_session.proofs.TellLemmas.{always_ok}

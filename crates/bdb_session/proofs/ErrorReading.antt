@@ -25,7 +25,7 @@ use Rattle.bdb_bind.specs.declared.bound.Bound.TheVariants as bound
 use Rattle.bdb_bind.specs.Binding.{bound_of}
 use Rattle.bdb_bind.specs.Firsts.{first_in, or_next, refused_if}
 use Rattle.bdb_bind.specs.Lines.{alias_line, alias_twice_line, arity_line, change_column, change_kind, column_line, cond_kinds, deep_line, first_repeated, fits_cond, fits_set, has_repeat, is_key_length, items_line, key_line, key_refused, kind_line, misfit, missing_column, path_repeats, path_too_deep, relation_line, repeat_line, set_kinds, taken_line, text_line, too_many_columns, unknown_relation, unknown_user, user_line, values_arity, values_kind}
-use Rattle.bdb_bind.specs.Lookup.{has_column, is_user_name, number_of}
+use Rattle.bdb_bind.specs.Lookup.{has_column, is_user_name, relation_number}
 use Rattle.bdb_bind.specs.Parts.{change_columns, cond_columns, depth_limit, is_long, new_columns, new_key, path_names, query_of, relation_name, some_text, tuple_values}
 use Rattle.bdb_bind.specs.QueryBinding.{bound_query, query_cond, query_item, query_side, query_who}
 use Rattle.bdb_bind.specs.QueryLines.{alias_twice, column_alias, column_missing, column_not_uid, cond_kind, in_columns, in_cond, in_later_columns, in_path, in_side, in_who, item_relation, item_user, kind_named, kind_of_side, query_alias, query_alias_twice, query_column, query_deep, query_items, query_kind, query_relation, query_repeat, query_user, repeats_name, who_user}
@@ -37,7 +37,7 @@ use Rattle.bdb_lex.specs.Tokens.{tokens_of}
 use Rattle.bdb_lex.specs.declared.token.Token.{Token}
 use Rattle.bdb_lex.proofs.SpellingLemmas.{tokens_are_formed}
 use Rattle.bdb_parse.specs.Fits.{fits}
-use Rattle.bdb_parse.specs.Numbers.{number_of as number_spelled}
+use Rattle.bdb_parse.specs.Numbers.{number_written as number_spelled}
 use Rattle.bdb_parse.specs.Reading.{command_of}
 use Rattle.bdb_parse.specs.Spelled.{AreWellSpelled}
 use Rattle.bdb_parse.proofs.FilledLemmas.{command_filled_of}
@@ -56,7 +56,7 @@ use Rattle.bdb_syntax.specs.declared.command.RawSide.{RawSide}
 use Rattle.bdb_syntax.specs.declared.command.RawSide.TheVariants as sides
 use Rattle.bdb_syntax.specs.declared.command.RawWho.{RawWho}
 use Rattle.bdb_syntax.specs.declared.command.RawWho.TheVariants as who
-use Rattle.bdb_syntax.specs.Printable.{IsFullCol, IsPrintable, IsPrintableCond, IsPrintableItem, IsPrintableQuery, IsPrintableSide, IsPrintableValue, begins_word, is_in_word, is_word}
+use Rattle.bdb_syntax.specs.Printable.{IsFullColumn, IsPrintable, IsPrintableCond, IsPrintableItem, IsPrintableQuery, IsPrintableSide, IsPrintableValue, begins_word, is_in_word, is_word}
 use Rattle.bdb_session.proofs.AllowedLemmas.{well_spelled}
 use Rattle.bdb_session.proofs.ErrorBases.{if_there, visible_is_other}
 use Rattle.bdb_session.proofs.ErrorPlans.{has_flat_alias, is_flat_cond, is_flat_operand}
@@ -109,18 +109,18 @@ literal_flat : (v : Value) → IsPrintableValue v → is_flat_value v ≡ true
 literal_flat (Int n) h = refl
 literal_flat (Text t) h = list_all_weaker (λ c. nat_le 32 c) (λ c. not (nat_eq c 10)) visible_is_other t h.1
 
-side_flat : (rels : List RelDef) (items : List RawItem) (s : RawSide) → IsPrintableSide IsFullCol s → is_flat_operand (query_side rels items s) ≡ true
+side_flat : (rels : List RelDef) (items : List RawItem) (s : RawSide) → IsPrintableSide IsFullColumn s → is_flat_operand (query_side rels items s) ≡ true
 side_flat rels items (sides.Col c) h = refl
 side_flat rels items (sides.Lit v) h = literal_flat v h
 
-conds_flat : (rels : List RelDef) (items : List RawItem) (conds : List RawCond) → AllByRecursion (IsPrintableCond IsFullCol) conds → list_all is_flat_cond (map (query_cond rels items) conds) ≡ true
+conds_flat : (rels : List RelDef) (items : List RawItem) (conds : List RawCond) → AllByRecursion (IsPrintableCond IsFullColumn) conds → list_all is_flat_cond (map (query_cond rels items) conds) ≡ true
 conds_flat rels items [] h = refl
 conds_flat rels items (c ∷ cs) h =
     and_from (is_flat_cond (query_cond rels items c)) (list_all is_flat_cond (map (query_cond rels items) cs)) (side_flat rels items c.right h.0.1) (conds_flat rels items cs h.1)
 
 item_flat : (catalog : Catalog) (items : List RawItem) (i : RawItem) → IsPrintableItem i → has_flat_alias (query_item catalog items i) ≡ true
 item_flat catalog items i h =
-    cond_both (is_users i) (item.Users i.alias) (item.Rel i.alias (unwrap_or (number_of catalog.rels i.rel) 0) i.sign (map (query_who catalog.users items) i.path))
+    cond_both (is_users i) (item.Users i.alias) (item.Rel i.alias (unwrap_or (relation_number catalog.rels i.rel) 0) i.sign (map (query_who catalog.users items) i.path))
     (λ x. has_flat_alias x ≡ true) (λ e. word_flat i.alias h.2.0) (λ e. word_flat i.alias h.2.0)
 
 items_flat : (catalog : Catalog) (all items : List RawItem) → AllByRecursion IsPrintableItem items → list_all has_flat_alias (map (query_item catalog all) items) ≡ true
@@ -231,7 +231,7 @@ taken_reason : (catalog : Catalog) (c : Command) → HasReason (taken_line catal
 unfolding taken_line
 taken_reason catalog (CreateUser name) = when_reason (is_user_name catalog.users name) (error.TakenUser name) refl
 taken_reason catalog (CreateRelation name cols key) =
-    let taken = is_some (number_of catalog.rels name) || same_text name users_name in
+    let taken = is_some (relation_number catalog.rels name) || same_text name users_name in
     next_reason (refused_if taken (error.TakenName name)) (option_map error.TakenName (first_repeated [] cols))
     (when_reason taken (error.TakenName name) refl) (map_reason error.TakenName (λ name. refl) (first_repeated [] cols))
 taken_reason catalog _ = refl
@@ -264,7 +264,7 @@ kind_reason cols _ = refl
 
 unknown_reason : (rels : List RelDef) (o : Option (List ℕ)) → HasReason (unknown_relation rels o)
 unknown_reason rels None = refl
-unknown_reason rels (Some name) = when_reason (not (is_some (number_of rels name))) (error.Relation name) refl
+unknown_reason rels (Some name) = when_reason (not (is_some (relation_number rels name))) (error.Relation name) refl
 
 -- each line
 
@@ -285,7 +285,7 @@ relation_reason : (catalog : Catalog) (c : Command) → HasReason (relation_line
 unfolding relation_line
 relation_reason catalog c =
     next_reason (unknown_relation catalog.rels (relation_name c)) (option_and_then (query_relation catalog.rels) (query_of c)) (unknown_reason catalog.rels (relation_name c))
-    (then_reason (query_relation catalog.rels) (λ q. first_reason (item_relation catalog.rels) (λ i. when_reason (not (is_users i || is_some (number_of catalog.rels i.rel))) (error.Relation i.rel) refl) q.items) (query_of c))
+    (then_reason (query_relation catalog.rels) (λ q. first_reason (item_relation catalog.rels) (λ i. when_reason (not (is_users i || is_some (relation_number catalog.rels i.rel))) (error.Relation i.rel) refl) q.items) (query_of c))
 
 user_reason : (catalog : Catalog) (c : Command) → HasReason (user_line catalog c)
 unfolding user_line

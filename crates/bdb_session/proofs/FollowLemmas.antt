@@ -22,8 +22,8 @@ use Rattle.bdb_session.specs.declared.event.Event.TheVariants.{Piece}
 use Rattle.bdb_session.specs.declared.reading.Reading.{Reading}
 use Rattle.bdb_session.specs.declared.reading.Reading.TheVariants as reading
 use Rattle.bdb_session.specs.declared.reply.Reply.{Reply}
-use Rattle.bdb_session.specs.declared.stop.StopError.{StopError}
-use Rattle.bdb_session.specs.declared.stop.StopError.TheVariants.{Fault}
+use Rattle.bdb_session.specs.declared.error.StopError.{StopError}
+use Rattle.bdb_session.specs.declared.error.StopError.TheVariants.{Fault}
 use Rattle.bdb_session.proofs.ServedLemmas.{as_it_was, nothing_falls, refused_serves, still_agrees, ends_well}
 
 -- ---- what is known

@@ -20,7 +20,7 @@ use Rattle.bdb_undo.specs.declared.change.Named.TheVariants.{UserDropped}
 use Rattle.bdb_undo.proofs.ChangeLemmas.{leaving_leads}
 use Rattle.bdb_val.proofs.Calls.{HasGone}
 use Rattle.bdb_session.specs.declared.reply.Reply.{Reply}
-use Rattle.bdb_session.specs.declared.stop.StopError.{StopError}
+use Rattle.bdb_session.specs.declared.error.StopError.{StopError}
 use Rattle.bdb_session.specs.Known.{Known, Agrees, AgreesOnSome}
 use Rattle.bdb_session.specs.Machine.{bound_outcome}
 use Rattle.bdb_session.specs.Outcome.{State, Done}

@@ -5,13 +5,13 @@ use Rattle.bdb_base.specs.Bases.{Contents}
 use Rattle.bdb_keep.specs.Calls.{IsBegin}
 use Rattle.bdb_keep.specs.Seen.{Seen, IsStill}
 use Rattle.bdb_undo.specs.Histories.{Kept}
-use Rattle.bdb_undo.specs.Timelines.{Timeline, StandsFor, arrived}
+use Rattle.bdb_undo.specs.Timelines.{Timeline, KeepsTimeline, arrived}
 use Rattle.bdb_undo.specs.declared.change.Change.{Change}
 use Rattle.bdb_undo.proofs.TimelineLemmas.{arrives_there, note_arrives, staying_arrives}
 use Rattle.bdb_session.specs.declared.news.News.{News}
 use Rattle.bdb_session.specs.declared.reply.Reply.{Reply}
-use Rattle.bdb_session.specs.declared.stop.StopError.{StopError}
-use Rattle.bdb_session.specs.declared.stop.StopError.TheVariants.{Fault}
+use Rattle.bdb_session.specs.declared.error.StopError.{StopError}
+use Rattle.bdb_session.specs.declared.error.StopError.TheVariants.{Fault}
 use Rattle.bdb_session.specs.Following.{Moves, moved_by}
 use Rattle.bdb_session.specs.Known.{Known, Agrees, Remembers}
 use Rattle.bdb_session.specs.Outcome.{State, Outcome, start_from, state_after}
@@ -20,8 +20,8 @@ use Rattle.bdb_session.proofs.ServedLemmas.{still_agrees}
 use Rattle.bdb_session.proofs.WithinLemmas.{refused_stays}
 
 -- the changes kept with the one told stand for where it leads
-pub noted_stands : (c : Option Change) (h : Kept) (t : Timeline) (b : Contents) → StandsFor h t → LeadsBy c t.now b → StandsFor (noted_by c h) (arrived b t)
-noted_stands None h t b s e = subst (λ (x : Contents). StandsFor h (arrived x t)) (sym e) (subst (StandsFor h) (sym (staying_arrives t)) s)
+pub noted_stands : (c : Option Change) (h : Kept) (t : Timeline) (b : Contents) → KeepsTimeline h t → LeadsBy c t.now b → KeepsTimeline (noted_by c h) (arrived b t)
+noted_stands None h t b s e = subst (λ (x : Contents). KeepsTimeline h (arrived x t)) (sym e) (subst (KeepsTimeline h) (sym (staying_arrives t)) s)
 noted_stands (Some c) h t b s l = note_arrives h t c b s l.0 l.1
 
 -- a session that agrees with tables on the base there, and keeps such changes, remembers the timeline there
@@ -29,7 +29,7 @@ remembers_there : (k : Known) (now : Known) (c : Option Change) (old new : Seen)
     → LeadsBy c t.now next.base → Agrees new.kept now next → Remembers new.kept now (arrived next.base t)
 remembers_there k now c old new t next m kept leads agrees = record {
   agrees = subst (λ (x : Contents). Agrees new.kept now (start_from x)) (sym (arrives_there t next.base)) agrees;
-  history = subst (λ (h : Kept). StandsFor h (arrived next.base t)) (sym kept) (noted_stands c k.history t next.base m.history leads);
+  history = subst (λ (h : Kept). KeepsTimeline h (arrived next.base t)) (sym kept) (noted_stands c k.history t next.base m.history leads);
 }
 
 -- where nothing was done, a session remembers what it did

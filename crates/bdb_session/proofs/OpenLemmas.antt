@@ -25,7 +25,7 @@ use Rattle.bdb_stored.specs.Counting.{TellsCounts}
 use Rattle.bdb_tables.specs.Codec.{place}
 use Rattle.bdb_tables.specs.InUse.{meta_codec}
 use Rattle.bdb_tables.specs.Stored.{Stores}
-use Rattle.bdb_session.specs.declared.stop.StopError.{StopError}
+use Rattle.bdb_session.specs.declared.error.StopError.{StopError}
 use Rattle.bdb_undo.specs.Histories.{nothing_kept}
 use Rattle.bdb_undo.specs.Timelines.{started}
 use Rattle.bdb_undo.proofs.TimelineLemmas.{nothing_kept_starts}

@@ -14,7 +14,7 @@ use Rattle.bdb_bind.specs.declared.bound.Bound.TheVariants.{Select, Explain}
 use Rattle.bdb_bind.proofs.SafetyLemmas.{test_tells_safe}
 use Rattle.bdb_catalog.specs.Bases.{StoresValid}
 use Rattle.bdb_exec.specs.Based.{HaveBase, ShowBase, world_number}
-use Rattle.bdb_exec.specs.Looks.{Stays, IsExecuted}
+use Rattle.bdb_exec.specs.Looks.{StaysAll, IsExecuted}
 use Rattle.bdb_exec.specs.Readable.{CanBeRun}
 use Rattle.bdb_exec.specs.Seen.{sight_of}
 use Rattle.bdb_exec.specs.declared.errors.ExecError.{ExecError}
@@ -22,7 +22,7 @@ use Rattle.bdb_exec.specs.declared.errors.ExecError.TheVariants as exec
 use Rattle.bdb_exec.proofs.ShownLemmas.{tables_show_base}
 use Rattle.bdb_keep.specs.Seen.{Seen}
 use Rattle.bdb_keep.specs.Tables.{Tables}
-use Rattle.bdb_plan.specs.Fitness.{Fields}
+use Rattle.bdb_plan.specs.Fitness.{PlanFields}
 use Rattle.bdb_plan.specs.PlanOf.{plan_of}
 use Rattle.bdb_plan.specs.Running.{meaning_of}
 use Rattle.bdb_render.specs.Replies.{rows_reply}
@@ -34,8 +34,8 @@ use Rattle.bdb_session.specs.Outcome.{State, Outcome, Refused, Done}
 use Rattle.bdb_session.specs.Sizes.{too_many}
 use Rattle.bdb_session.specs.Within.{IsSaid, TellsWithin}
 use Rattle.bdb_session.specs.declared.reply.Reply.{Reply}
-use Rattle.bdb_session.specs.declared.stop.StopError.{StopError}
-use Rattle.bdb_session.specs.declared.stop.StopError.TheVariants.{Fault, Memory}
+use Rattle.bdb_session.specs.declared.error.StopError.{StopError}
+use Rattle.bdb_session.specs.declared.error.StopError.TheVariants.{Fault, Memory}
 use Rattle.bdb_session.proofs.OutcomeLemmas.{unless_some, unless_none}
 use Rattle.bdb_session.proofs.TellLemmas.{other_cause}
 use Rattle.bdb_session.proofs.WithinLemmas.{read_tells, stop_tells}
@@ -124,23 +124,23 @@ many_outcome s q many =
 -- ---- what is told of a query
 
 -- a plan was run, or had too many rows
-stays_gone : {T : Type 0} (old new : Seen) (result : Result T ExecError) → IsExecuted old new result → Stays old new → HasGone old new
+stays_gone : {T : Type 0} (old new : Seen) (result : Result T ExecError) → IsExecuted old new result → StaysAll old new → HasGone old new
 stays_gone old new result run h = record { goes = record { faults = run.counts.faults; running = h.running; last = h.last; commits = h.commits }; counts = run.counts }
 
-pub answers_tell : (k : Known) (q : Query) (plan : Fields) (rows : List (List Value)) (old mid new : Seen) (result : Result Reply StopError)
+pub answers_tell : (k : Known) (q : Query) (plan : PlanFields) (rows : List (List Value)) (old mid new : Seen) (result : Result Reply StopError)
     → AgreesOnSome old.kept k → can_be_answered k.catalog q ≡ true → plan ≡ plan_of k.catalog.rels q → rows ≡ meaning_of (sight_of old.kept) plan → length rows ≤ most_lines
     → IsExecuted old mid (Ok rows) → ((s : State) → IsSaid k.catalog (Done (rows_reply rows) (length rows) s) mid new result) → TellsWithin (λ s. bound_outcome s (Select q)) k k old new result
 answers_tell k q plan rows old mid new result some fits of_query means few run said =
-    let found = means ∙ ap (λ (p : Fields). meaning_of (sight_of old.kept) p) of_query in
+    let found = means ∙ ap (λ (p : PlanFields). meaning_of (sight_of old.kept) p) of_query in
     read_tells (λ s. bound_outcome s (Select q)) (λ s. Done (rows_reply rows) (length rows) s) k old mid new result some (stays_gone old mid (Ok rows) run run.ok) run.ok.kept
     (λ s a. rows_outcome s q rows (found ∙ plan_answers old.kept k s q a fits) few) (λ s. refl) said
 
-pub many_tell : {T : Type 0} (k : Known) (q : Query) (plan : Fields) (old mid new : Seen) (result : Result Reply StopError)
+pub many_tell : {T : Type 0} (k : Known) (q : Query) (plan : PlanFields) (old mid new : Seen) (result : Result Reply StopError)
     → AgreesOnSome old.kept k → can_be_answered k.catalog q ≡ true → plan ≡ plan_of k.catalog.rels q → most_lines < length (meaning_of (sight_of old.kept) plan)
     → IsExecuted {T = T} old mid (Err exec.TooMany) → IsSaid k.catalog (Refused refusal.Many) mid new result → TellsWithin (λ s. bound_outcome s (Select q)) k k old new result
 many_tell {T} k q plan old mid new result some fits of_query many run said =
     let stays = run.many refl in
-    let more = subst (λ (p : Fields). most_lines < length (meaning_of (sight_of old.kept) p)) of_query many in
+    let more = subst (λ (p : PlanFields). most_lines < length (meaning_of (sight_of old.kept) p)) of_query many in
     read_tells (λ s. bound_outcome s (Select q)) (λ s. Refused refusal.Many) k old mid new result some (stays_gone {T = T} old mid (Err exec.TooMany) run stays) stays.kept
     (λ s a. many_outcome s q (subst (λ (r : List (List Value)). most_lines < length r) (plan_answers old.kept k s q a fits) more)) (λ s. refl) (λ s. said)
 

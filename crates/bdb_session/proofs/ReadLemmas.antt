@@ -45,7 +45,7 @@ use Rattle.bdb_keep.specs.Tables.{Tables, bytes_cmp}
 use Rattle.bdb_key.specs.Grammar.{IsNum}
 use Rattle.bdb_paths.proofs.SuffixLemmas.{deepest_is_member, deepest_of_member}
 use Rattle.bdb_plan.specs.PlanOf.{plan_of}
-use Rattle.bdb_plan.specs.Fitness.{Fields}
+use Rattle.bdb_plan.specs.Fitness.{PlanFields}
 use Rattle.bdb_plan.specs.Running.{reads_from, start_of}
 use Rattle.bdb_plan.specs.Sight.{has_signed}
 use Rattle.bdb_tables.specs.Codec.{place}
@@ -58,7 +58,7 @@ use Rattle.bdb_session.specs.Known.{Known, Agrees}
 use Rattle.bdb_session.specs.Laws.{StoredPlansReadFew}
 use Rattle.bdb_session.specs.Outcome.{State}
 use Rattle.bdb_session.specs.QueryReads.{HasFewRows, ReadsAsBounded}
-use Rattle.bdb_session.specs.declared.stop.StopError.{StopError}
+use Rattle.bdb_session.specs.declared.error.StopError.{StopError}
 use Rattle.bdb_session.proofs.QueryLemmas.{stored_shows}
 use Rattle.bdb_session.proofs.TellLemmas.{always_ok}
 
@@ -233,10 +233,10 @@ plan_reads_few t k s q rows a fits few =
     let most = stored_plans_read_few t b q rows a.base here few in
     subst (λ (c : Catalog). reads_from (sight_of t) (plan_of c.rels q).steps (start_of (plan_of c.rels q).items) ≤ product_of (length b.catalog.users) rows 0 q.items) (sym a.catalog) most
 
-pub answers_read : {X : Type 0} (k : Known) (q : Query) (plan : Fields) (old mid new : Seen) (result : Result X StopError) → can_be_answered k.catalog q ≡ true → plan ≡ plan_of k.catalog.rels q
+pub answers_read : {X : Type 0} (k : Known) (q : Query) (plan : PlanFields) (old mid new : Seen) (result : Result X StopError) → can_be_answered k.catalog q ≡ true → plan ≡ plan_of k.catalog.rels q
     → mid.reads ≤ old.reads + reads_from (sight_of old.kept) plan.steps (start_of plan.items) → new.reads ≡ mid.reads → ReadsAsBounded q k old new result
 answers_read k q plan old mid new result fits of_query most same s rows a few =
     let fine = (and_parts (query_fits k.catalog q) (is_safe k.catalog.rels q) fits).0 in
     let least = plan_reads_few old.kept k s q rows a fine few in
-    let here = ap (λ (p : Fields). reads_from (sight_of old.kept) p.steps (start_of p.items)) of_query in
+    let here = ap (λ (p : PlanFields). reads_from (sight_of old.kept) p.steps (start_of p.items)) of_query in
     always_ok result (omega arith)

@@ -5,8 +5,8 @@ use Rattle.bdb_keep.specs.Seen.{Seen, IsStill, NeverFall, Unchanged}
 use Rattle.bdb_keep.specs.Tables.{Tables}
 use Rattle.bdb_render.specs.declared.refusal.Refusal.{Refusal}
 use Rattle.bdb_session.specs.declared.reply.Reply.{Reply}
-use Rattle.bdb_session.specs.declared.stop.StopError.{StopError}
-use Rattle.bdb_session.specs.declared.stop.StopError.TheVariants.{Fault}
+use Rattle.bdb_session.specs.declared.error.StopError.{StopError}
+use Rattle.bdb_session.specs.declared.error.StopError.TheVariants.{Fault}
 use Rattle.bdb_session.specs.Known.{Known, Agrees, AgreesOnSome}
 use Rattle.bdb_session.specs.Outcome.{State, Outcome, Refused, text_of, state_after}
 use Rattle.bdb_session.specs.Served.{Ends, AnswersAlone, IsServed, Serves}

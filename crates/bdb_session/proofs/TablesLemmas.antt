@@ -19,7 +19,7 @@ use Rattle.bdb_session.specs.Outcome.{State, Refused, Done}
 use Rattle.bdb_session.specs.Sizes.{too_many}
 use Rattle.bdb_session.specs.Within.{IsSaid, TellsWithin}
 use Rattle.bdb_session.specs.declared.reply.Reply.{Reply}
-use Rattle.bdb_session.specs.declared.stop.StopError.{StopError}
+use Rattle.bdb_session.specs.declared.error.StopError.{StopError}
 use Rattle.bdb_session.proofs.LineLemmas.{lines_are}
 use Rattle.bdb_session.proofs.OutcomeLemmas.{unless_some, unless_none}
 use Rattle.bdb_session.proofs.WithinLemmas.{read_tells}

@@ -14,7 +14,7 @@ use Rattle.bdb_keep.specs.Seen.{Seen, NeverFall, GoesOn}
 use Rattle.bdb_keep.specs.Tables.{Tables}
 use Rattle.bdb_render.specs.Replies.{world_reply}
 use Rattle.bdb_session.specs.declared.reply.Reply.{Reply}
-use Rattle.bdb_session.specs.declared.stop.StopError.{StopError}
+use Rattle.bdb_session.specs.declared.error.StopError.{StopError}
 use Rattle.bdb_session.specs.Known.{Known, Agrees, AgreesOnSome}
 use Rattle.bdb_session.specs.Machine.{bound_outcome, world_at}
 use Rattle.bdb_session.specs.Outcome.{State, Outcome, Done}

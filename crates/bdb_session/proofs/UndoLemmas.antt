@@ -16,7 +16,7 @@ use Rattle.bdb_tables.specs.declared.tab.TabError.{TabError}
 use Rattle.bdb_tables.specs.declared.tab.TabError.TheVariants as tab
 use Rattle.bdb_undo.specs.Changes.{CanName, Leads, named_back, named_forth}
 use Rattle.bdb_undo.specs.Histories.{stepped_back, stepped_forth}
-use Rattle.bdb_undo.specs.Timelines.{Timeline, StandsFor, undone, redone}
+use Rattle.bdb_undo.specs.Timelines.{Timeline, KeepsTimeline, undone, redone}
 use Rattle.bdb_undo.specs.declared.change.Change.{Change}
 use Rattle.bdb_undo.proofs.ChangeLemmas.{back_gives_the_base_before}
 use Rattle.bdb_undo.proofs.TimelineLemmas.{back_undoes, forth_redoes, last_leads_here, coming_leads_ahead, nothing_to_undo, nothing_to_redo}
@@ -33,8 +33,8 @@ use Rattle.bdb_session.specs.Undoing.{led, stepped}
 use Rattle.bdb_session.specs.declared.news.News.{News}
 use Rattle.bdb_session.specs.Within.{IsKept, IsUndone, IsSaid, Closes, TellsWithin, learned, noted_by}
 use Rattle.bdb_session.specs.declared.reply.Reply.{Reply}
-use Rattle.bdb_session.specs.declared.stop.StopError.{StopError}
-use Rattle.bdb_session.specs.declared.stop.StopError.TheVariants.{Fault, Memory}
+use Rattle.bdb_session.specs.declared.error.StopError.{StopError}
+use Rattle.bdb_session.specs.declared.error.StopError.TheVariants.{Fault, Memory}
 use Rattle.bdb_session.proofs.FollowLemmas.{agrees_as, still_remembers, refused_follows}
 use Rattle.bdb_session.proofs.ServedLemmas.{still_agrees}
 use Rattle.bdb_session.proofs.WithinLemmas.{begin_stops, step_serves, step_stops, table_stops, memory_tells}
@@ -103,7 +103,7 @@ module _ (step : Timeline → Option Timeline) (before learns gone : Known) (run
 -- a step that has ended follows
 module _ (x : Refusal) (step : Timeline → Option Timeline) (before learns gone : Known) (old run mid new : Seen) (still : IsStill old)
     (began : IsBegin {T = Unit {0}} {E = StopError} old run (Ok tt) Fault) (catalog : gone.catalog ≡ learns.catalog) (counts : gone.counts ≡ learns.counts)
-    (leads : (t : Timeline) → Remembers old.kept before t → (u : Timeline) × (step t ≡ Some u) × StandsFor gone.history u) (some : RemembersSome old.kept before) where
+    (leads : (t : Timeline) → Remembers old.kept before t → (u : Timeline) × (step t ≡ Some u) × KeepsTimeline gone.history u) (some : RemembersSome old.kept before) where
   begun : (t : Timeline) → Remembers old.kept before t → Remembers run.kept before t
   begun t r = still_remembers old.kept run.kept before t began.kept r
 
@@ -123,7 +123,7 @@ module _ (x : Refusal) (step : Timeline → Option Timeline) (before learns gone
       let h = s.served (start_from t.now) m.agrees in
       record {
         reply = h.reply;
-        next = record { agrees = h.next; history = subst (λ (j : Known). StandsFor j.history (leads t m).0) (sym k.next) (leads t m).2 };
+        next = record { agrees = h.next; history = subst (λ (j : Known). KeepsTimeline j.history (leads t m).0) (sym k.next) (leads t m).2 };
         commits = h.commits;
         alone = h.alone;
       }
@@ -272,17 +272,17 @@ module _ (k : Known) (news : News) (old run mid new : Seen) (still : IsStill old
   begins : (t : Timeline) → Remembers old.kept k t → Remembers run.kept k t
   begins t m = still_remembers old.kept run.kept k t began.kept m
 
-  undo_leads_on : 0 < length k.history.undos → (t : Timeline) → Remembers old.kept k t → (u : Timeline) × (undone t ≡ Some u) × StandsFor (gone_back (learned k news)).history u
+  undo_leads_on : 0 < length k.history.undos → (t : Timeline) → Remembers old.kept k t → (u : Timeline) × (undone t ≡ Some u) × KeepsTimeline (gone_back (learned k news)).history u
   undo_leads_on many t m =
       let first = first_of k.history.undos many in
       let to = undo_leads k old.kept first.0 t m first.1 in
-      (to.0, to.1, subst (λ (o : Option Change). StandsFor (stepped_back (noted_by o k.history)) to.0) (sym unchanged) (back_undoes k.history t to.0 m.history to.1))
+      (to.0, to.1, subst (λ (o : Option Change). KeepsTimeline (stepped_back (noted_by o k.history)) to.0) (sym unchanged) (back_undoes k.history t to.0 m.history to.1))
 
-  redo_leads_on : 0 < length k.history.redos → (t : Timeline) → Remembers old.kept k t → (u : Timeline) × (redone t ≡ Some u) × StandsFor (gone_forth (learned k news)).history u
+  redo_leads_on : 0 < length k.history.redos → (t : Timeline) → Remembers old.kept k t → (u : Timeline) × (redone t ≡ Some u) × KeepsTimeline (gone_forth (learned k news)).history u
   redo_leads_on many t m =
       let first = first_of k.history.redos many in
       let to = redo_leads k old.kept first.0 t m first.1 in
-      (to.0, to.1, subst (λ (o : Option Change). StandsFor (stepped_forth (noted_by o k.history)) to.0) (sym unchanged) (forth_redoes k.history t to.0 m.history to.1))
+      (to.0, to.1, subst (λ (o : Option Change). KeepsTimeline (stepped_forth (noted_by o k.history)) to.0) (sym unchanged) (forth_redoes k.history t to.0 m.history to.1))
 
   pub undo_closes : 0 < length k.history.undos → (r : Reply) (now : Known) (result : Result Reply StopError) → TellsStep undone k (learned k news) run mid (Ok r)
       → IsKept (gone_back (learned k news)) r k now mid new result → Follows (λ t. stepped NoUndo (undone t)) (λ t. led t (undone t)) k now old new result

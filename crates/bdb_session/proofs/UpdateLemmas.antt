@@ -40,15 +40,15 @@ use Rattle.bdb_undo.specs.Changes.{missing_from}
 use Rattle.bdb_undo.specs.declared.change.Change.{Change}
 use Rattle.bdb_undo.specs.declared.change.Named.TheVariants.{Nothing}
 use Rattle.bdb_undo.proofs.ChangeLemmas.{update_leads}
-use Rattle.bdb_update.specs.Calls.{MayChange, SomeMayChange, Changes, IsUntouched, clash_within, with_stmts, size_passed, with_others}
+use Rattle.bdb_update.specs.Calls.{MayChange, SomeMayChange, Changes, IsUnwritten, clash_within, with_stmts, size_passed, with_others}
 use Rattle.bdb_update.specs.declared.answer.UpdateError.{UpdateError}
 use Rattle.bdb_update.specs.declared.answer.UpdateError.TheVariants as change
 use Rattle.bdb_update.proofs.NextLemmas.{MayReplace, next_is_valid, no_more_worlds}
 use Rattle.bdb_update.proofs.WeighLemmas.{may_replace}
 use Rattle.bdb_val.proofs.Calls.{HasGone, gone_then}
 use Rattle.bdb_session.specs.declared.reply.Reply.{Reply}
-use Rattle.bdb_session.specs.declared.stop.StopError.{StopError}
-use Rattle.bdb_session.specs.declared.stop.StopError.TheVariants.{Fault, Memory}
+use Rattle.bdb_session.specs.declared.error.StopError.{StopError}
+use Rattle.bdb_session.specs.declared.error.StopError.TheVariants.{Fault, Memory}
 use Rattle.bdb_session.specs.Known.{Known, Agrees, AgreesOnSome}
 use Rattle.bdb_session.specs.Machine.{bound_outcome, becomes, clash_with, clashes_with, clashing_within}
 use Rattle.bdb_session.specs.Noting.{MayMeetEach, SomeMayMeetEach, Replaces, made_of}
@@ -258,7 +258,7 @@ module _ (k : Known) (before : Counts) (t u : Tables) (w : List ℕ) (sign : Sig
     may s a = subst (λ (x : Tables). MayChange x before w gone come s.base) (sym now) (may_change s (from s a))
 
     -- the session agrees with the tables as before, where nothing was written
-    stays : (s : State) → Agrees old.kept (sized k before) s → IsUntouched mid fin before after → Agrees fin.kept (sized k after) s
+    stays : (s : State) → Agrees old.kept (sized k before) s → IsUnwritten mid fin before after → Agrees fin.kept (sized k after) s
     stays s a un =
         let b = (may s a).base in
         untouched_agrees k before after mid fin s un (record { base = record { stored = b.stored; valid = b.valid }; catalog = a.catalog; counts = a.counts })

@@ -20,7 +20,7 @@ use Rattle.bdb_session.specs.Outcome.{State, Done}
 use Rattle.bdb_session.specs.Telling.{ReadsWithin, why_reads}
 use Rattle.bdb_session.specs.Within.{IsSaid, TellsWithin}
 use Rattle.bdb_session.specs.declared.reply.Reply.{Reply}
-use Rattle.bdb_session.specs.declared.stop.StopError.{StopError}
+use Rattle.bdb_session.specs.declared.error.StopError.{StopError}
 use Rattle.bdb_session.proofs.TellLemmas.{always_ok, fitting_users}
 use Rattle.bdb_session.proofs.WithinLemmas.{read_tells}
 use Rattle.bdb_worlds.specs.Bounds.{EndsWithin}

@@ -13,8 +13,8 @@ use Rattle.bdb_update.proofs.CallLemmas.{gone_itself}
 use Rattle.bdb_val.specs.Steps.{IsChanging}
 use Rattle.bdb_val.proofs.Calls.{HasGone, changing_err, changing_ok, changing_undone}
 use Rattle.bdb_session.specs.declared.reply.Reply.{Reply}
-use Rattle.bdb_session.specs.declared.stop.StopError.{StopError}
-use Rattle.bdb_session.specs.declared.stop.StopError.TheVariants.{Fault, Memory}
+use Rattle.bdb_session.specs.declared.error.StopError.{StopError}
+use Rattle.bdb_session.specs.declared.error.StopError.TheVariants.{Fault, Memory}
 use Rattle.bdb_session.specs.Known.{Known, Agrees, AgreesOnSome}
 use Rattle.bdb_session.specs.Outcome.{State, Outcome, Blank, Refused, Done, text_of, is_accepted, state_after, commit_count}
 use Rattle.bdb_session.specs.Served.{IsReply, Serves}

@@ -18,7 +18,7 @@ use Rattle.bdb_keep.specs.Seen.{Seen}
 use Rattle.bdb_keep.specs.Tables.{Tables}
 use Rattle.bdb_render.specs.declared.refusal.Refusal.TheVariants as refusal
 use Rattle.bdb_tables.specs.Differences.{AreDifferences}
-use Rattle.bdb_update.specs.Bounds.{WritesWithin}
+use Rattle.bdb_update.specs.Bounds.{WritesWithinMore}
 use Rattle.bdb_update.specs.Calls.{Adds}
 use Rattle.bdb_update.specs.Replacing.{WritesForOne}
 use Rattle.bdb_update.specs.declared.answer.Added.TheVariants.{New, Already}
@@ -28,8 +28,8 @@ use Rattle.bdb_worlds.specs.Bounds.{EndsWithin}
 use Rattle.bdb_update.proofs.SpendLemmas.{none_within}
 use Rattle.bdb_session.specs.Bounds.{InsertsWithin, RefusedUnwritten, StandsUnwritten}
 use Rattle.bdb_session.specs.declared.reply.Reply.{Reply}
-use Rattle.bdb_session.specs.declared.stop.StopError.{StopError}
-use Rattle.bdb_session.specs.declared.stop.StopError.TheVariants.{Fault, Memory}
+use Rattle.bdb_session.specs.declared.error.StopError.{StopError}
+use Rattle.bdb_session.specs.declared.error.StopError.TheVariants.{Fault, Memory}
 use Rattle.bdb_session.specs.Known.{Known, Agrees, AgreesOnSome}
 use Rattle.bdb_session.specs.Machine.{clash_with}
 use Rattle.bdb_session.specs.Outcome.{State, Outcome, Refused, is_accepted}
@@ -43,7 +43,7 @@ use Rattle.bdb_session.proofs.TakenLemmas.{all_taken, only_one, taken_at}
 
 -- a bound from one keeper to another is one from a keeper with the rows and writes of the first to one with those of the second
 pub same_writes : (times more : ℕ) (old from to new : Seen) → from.kept ≡ old.kept → from.writes ≡ old.writes → new.kept ≡ to.kept → new.writes ≡ to.writes
-    → WritesWithin times more from to → WritesWithin times more old new
+    → WritesWithinMore times more from to → WritesWithinMore times more old new
 same_writes times more old from to new k w l v h = λ ps d.
     let there = subst (λ (t : Tables). AreDifferences (tables.get t) (tables.get to.kept) ps) (sym k) (subst (λ (t : Tables). AreDifferences (tables.get old.kept) (tables.get t) ps) l d) in
     subst (λ n. EndsWithin (times * length ps + more) old.writes n) (sym v) (subst (λ n. EndsWithin (times * length ps + more) n to.writes) w (h ps there))
@@ -51,9 +51,9 @@ same_writes times more old from to new k w l v h = λ ps d.
 -- ---- within a transaction
 
 -- a reply writes nothing
-pub said_writes : (times more : ℕ) (c : Catalog) (o : Outcome) (old mid new : Seen) (result : Result Reply StopError) → WritesWithin times more old mid → IsSaid c o mid new result
-    → OnOk result (WritesWithin times more old new)
-said_writes times more c o old mid new (Ok r) h said = subst (λ (x : Seen). WritesWithin times more old x) (sym said.alone) h
+pub said_writes : (times more : ℕ) (c : Catalog) (o : Outcome) (old mid new : Seen) (result : Result Reply StopError) → WritesWithinMore times more old mid → IsSaid c o mid new result
+    → OnOk result (WritesWithinMore times more old new)
+said_writes times more c o old mid new (Ok r) h said = subst (λ (x : Seen). WritesWithinMore times more old x) (sym said.alone) h
 said_writes times more c o old mid new (Err stop) h said = tt
 
 -- what is accepted is not refused
@@ -67,18 +67,18 @@ said_unwritten c o old mid new (Err stop) e said = tt
 
 -- an error told is no reply
 stopped_writes : (times more : ℕ) (stop : StopError) (old mid new : Seen) (result : Result Reply StopError) → IsStopped stop mid new result
-    → OnOk result (WritesWithin times more old new) × RefusedUnwritten old new result
+    → OnOk result (WritesWithinMore times more old new) × RefusedUnwritten old new result
 stopped_writes times more stop old mid new result said =
-    subst (λ (r : Result Reply StopError). OnOk r (WritesWithin times more old new) × RefusedUnwritten old new r) (sym said.error) (tt, tt)
+    subst (λ (r : Result Reply StopError). OnOk r (WritesWithinMore times more old new) × RefusedUnwritten old new r) (sym said.error) (tt, tt)
 
 -- an insert that is refused or stops
 module _ (k : Known) (x : Stmt) (before after : Counts) (old mid new : Seen) (result : Result Reply StopError) (fits : belongs k.catalog x ≡ true) (some : AgreesOnSome old.kept (sized k before)) where
-  said_refused : (o : Outcome) → mid.writes ≡ old.writes → IsSaid k.catalog o mid new result → OnOk result (WritesWithin (length x.path + 2) 8 old new) × RefusedUnwritten old new result
+  said_refused : (o : Outcome) → mid.writes ≡ old.writes → IsSaid k.catalog o mid new result → OnOk result (WritesWithinMore (length x.path + 2) 8 old new) × RefusedUnwritten old new result
   said_refused o e said =
       (said_writes (length x.path + 2) 8 k.catalog o old mid new result (none_within (length x.path + 2) 8 old mid e) said, said_unwritten k.catalog o old mid new result e said)
 
   pub insert_err_writes : (e : UpdateError) → Adds old mid before after x (Err e) → Refuses k.catalog e mid new result
-      → OnOk result (WritesWithin (length x.path + 2) 8 old new) × RefusedUnwritten old new result
+      → OnOk result (WritesWithinMore (length x.path + 2) 8 old new) × RefusedUnwritten old new result
   insert_err_writes (change.Clash least) adds said = said_refused _ (adds some.state.base (insert_meets k x before after old mid fits some.state some.agrees)).untouched.writes said
   insert_err_writes (change.Full what) adds said = said_refused _ (adds some.state.base (insert_meets k x before after old mid fits some.state some.agrees)).untouched.writes said
   insert_err_writes change.Fault adds said = stopped_writes (length x.path + 2) 8 Fault old mid new result said
@@ -111,13 +111,13 @@ module _ (k : Known) (x : Stmt) (before after : Counts) (old mid new : Seen) (re
 pub one_delete_writes : (k : Known) (before : Counts) (w : List ℕ) (sign : Sign) (rel : ℕ) (conds : List Cond) (gone : List Stmt) (old read mid new : Seen) (c : Catalog) (o : Outcome)
     (result : Result Reply StopError) → fits_path k.catalog.users deepest_statement w ≡ true → AreTaken old.kept w sign rel conds gone → read.kept ≡ old.kept → read.writes ≡ old.writes
     → WritesForOne gone read mid (Ok tt) → IsSaid c o mid new result → (s : State) → Agrees old.kept (sized k before) s → length (taken_by w sign rel conds s.base.stmts) ≡ 1
-    → OnOk result (WritesWithin (length w + 2) 8 old new)
+    → OnOk result (WritesWithinMore (length w + 2) 8 old new)
 one_delete_writes k before w sign rel conds gone old read mid new c o result fits taken kept writes one said s a single =
     let is = gone_is k before old.kept read.kept w sign rel conds gone fits taken kept s a in
     let here : AllByRecursion (λ (x : Stmt). x.path ≡ w) gone =
     subst (AllByRecursion (λ (x : Stmt). x.path ≡ w)) (sym is) (all_taken (λ x. x.path ≡ w) (is_taken w sign rel conds) (taken_at w sign rel conds) s.base.stmts) in
     let x = only_one (λ (x : Stmt). x.path ≡ w) gone here (ap length is ∙ single) in
-    let within = subst (λ (p : List ℕ). WritesWithin (length p + 2) 8 read mid) x.1.1 (one x.0 x.1.0) in
+    let within = subst (λ (p : List ℕ). WritesWithinMore (length p + 2) 8 read mid) x.1.1 (one x.0 x.1.0) in
     said_writes (length w + 2) 8 c o old mid new result (same_writes (length w + 2) 8 old read mid mid kept writes refl refl within) said
 
 -- ---- the end of a transaction
@@ -137,17 +137,17 @@ module _ (learns : Known) (r : Reply) (before now : Known) (old run mid new : Se
   ]
 
 module _ (times more : ℕ) (learns : Known) (r : Reply) (before now : Known) (old run mid new : Seen) (began : IsBegin {T = Unit {0}} {E = StopError} old run (Ok tt) Fault)
-    (within : WritesWithin times more run mid) (refused : r.accepted ≡ false → mid.writes ≡ run.writes) where
-  kept_writes : (result : Result Reply StopError) → IsKept learns r before now mid new result → OnOk result (WritesWithin times more old new)
+    (within : WritesWithinMore times more run mid) (refused : r.accepted ≡ false → mid.writes ≡ run.writes) where
+  kept_writes : (result : Result Reply StopError) → IsKept learns r before now mid new result → OnOk result (WritesWithinMore times more old new)
   kept_writes (Ok q) k = same_writes times more old run mid new began.kept began.writes k.commit.kept k.commit.writes within
   kept_writes (Err stop) k = tt
 
-  pub closed_writes : (result : Result Reply StopError) → Closes learns r before now mid new result → OnOk result (WritesWithin times more old new)
+  pub closed_writes : (result : Result Reply StopError) → Closes learns r before now mid new result → OnOk result (WritesWithinMore times more old new)
   closed_writes result h = elim (cases_Bool r.accepted) [
     | inl done ↦ kept_writes result (MatchBool-at_true (IsKept learns r before now mid new result) (IsUndone r before now mid new result) done h)
     | inr undone ↦
         let k = MatchBool-at_false (IsKept learns r before now mid new result) (IsUndone r before now mid new result) undone h in
-        subst (λ (x : Result Reply StopError). OnOk x (WritesWithin times more old new)) (sym k.reply) (none_within times more old new (k.undo.writes ∙ refused undone ∙ began.writes))
+        subst (λ (x : Result Reply StopError). OnOk x (WritesWithinMore times more old new)) (sym k.reply) (none_within times more old new (k.undo.writes ∙ refused undone ∙ began.writes))
   ]
 
   kept_same : mid.writes ≡ run.writes → (result : Result Reply StopError) → IsKept learns r before now mid new result → OnOk result (new.writes ≡ old.writes)
@@ -166,7 +166,7 @@ module _ (times more : ℕ) (learns : Known) (r : Reply) (before now : Known) (o
   pub insert_closes : (x : Stmt) → times ≡ length x.path + 2 → more ≡ 8 → StandsUnwritten x before run mid (Ok r)
       → (result : Result Reply StopError) → Closes learns r before now mid new result → InsertsWithin x before old new result
   insert_closes x t m already result h = record {
-    within = subst (λ n. OnOk result (WritesWithin n 8 old new)) t (subst (λ n. OnOk result (WritesWithin times n old new)) m (closed_writes result h));
+    within = subst (λ n. OnOk result (WritesWithinMore n 8 old new)) t (subst (λ n. OnOk result (WritesWithinMore times n old new)) m (closed_writes result h));
     refused = closed_unwritten learns r before now old run mid new began refused result h;
     already = λ s a there. closed_same (already s (still_agrees old.kept run.kept before s began.kept a) there) result h;
   }

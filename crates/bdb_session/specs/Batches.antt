@@ -8,7 +8,7 @@ use Rattle.bdb_undo.specs.Timelines.{Timeline, started}
 use Rattle.bdb_session.specs.declared.batch.BatchReply.{BatchReply}
 use Rattle.bdb_session.specs.declared.event.Event.{Event}
 use Rattle.bdb_session.specs.declared.event.Event.TheVariants.{Piece}
-use Rattle.bdb_session.specs.declared.stop.StopError.{StopError}
+use Rattle.bdb_session.specs.declared.error.StopError.{StopError}
 use Rattle.bdb_session.specs.Known.{Known, Agrees}
 use Rattle.bdb_session.specs.Machine.{accepts, next_state, reply_of}
 use Rattle.bdb_session.specs.Outcome.{State, Outcome, start_from, state_after}

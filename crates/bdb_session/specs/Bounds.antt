@@ -12,14 +12,14 @@ use Rattle.bdb_bind.specs.Refusal.{refusal_of}
 use Rattle.bdb_keep.specs.Seen.{Seen}
 use Rattle.bdb_leaving.specs.Leaving.{WritesLeaving}
 use Rattle.bdb_syntax.specs.declared.command.Command.{Command}
-use Rattle.bdb_update.specs.Bounds.{WritesWithin}
+use Rattle.bdb_update.specs.Bounds.{WritesWithinMore}
 use Rattle.bdb_update.specs.Steps.{WritesThrough, steps_of, steps_without}
 use Rattle.bdb_session.specs.declared.event.Event.{Event}
 use Rattle.bdb_session.specs.declared.event.Event.TheVariants as event
 use Rattle.bdb_session.specs.declared.reading.Reading.{Reading}
 use Rattle.bdb_session.specs.declared.reading.Reading.TheVariants as reading
 use Rattle.bdb_session.specs.declared.reply.Reply.{Reply}
-use Rattle.bdb_session.specs.declared.stop.StopError.{StopError}
+use Rattle.bdb_session.specs.declared.error.StopError.{StopError}
 use Rattle.bdb_session.specs.Known.{Known, Agrees}
 use Rattle.bdb_session.specs.Outcome.{State}
 use Rattle.bdb_session.specs.QueryReads.{ReadsAsBounded}
@@ -47,14 +47,14 @@ StandsUnwritten x k old new result = (s : State) → Agrees old.kept k s → sta
 -- A statement is added. That takes no more writes, for each place at which the rows differ, than its path has users, and two; and eight
 -- more in all. Where it is refused, or stands already, nothing is written.
 pub record InsertsWithin (x : Stmt) (k : Known) (old new : Seen) (result : Result Reply StopError) : Type 0 where
-  pub within : OnOk result (WritesWithin (length x.path + 2) 8 old new)
+  pub within : OnOk result (WritesWithinMore (length x.path + 2) 8 old new)
   pub refused : RefusedUnwritten old new result
   pub already : StandsUnwritten x k old new result
 
 -- Statements of a path are taken away. One alone takes no more writes, for each place at which the rows differ, than its path has
 -- users, and two; and eight more in all. Several take as many each, one after the other, and none takes no write. It is never refused.
 pub record DeletesThrough (b : Contents) (path : List ℕ) (gone : List Stmt) (old new : Seen) (result : Result Reply StopError) : Type 0 where
-  pub one : length gone ≡ 1 → OnOk result (WritesWithin (length path + 2) 8 old new)
+  pub one : length gone ≡ 1 → OnOk result (WritesWithinMore (length path + 2) 8 old new)
   pub steps : OnOk result (WritesThrough old (steps_without b gone) new)
   pub accepted : IfOk result (λ r. r.accepted ≡ true)
 

@@ -12,8 +12,8 @@ use Rattle.bdb_session.specs.declared.course.Course.{Course}
 use Rattle.bdb_session.specs.declared.course.Course.TheVariants.{Back, Forth, Onward}
 use Rattle.bdb_session.specs.declared.event.Event.{Event}
 use Rattle.bdb_session.specs.declared.reply.Reply.{Reply}
-use Rattle.bdb_session.specs.declared.stop.StopError.{StopError}
-use Rattle.bdb_session.specs.declared.stop.StopError.TheVariants.{Fault}
+use Rattle.bdb_session.specs.declared.error.StopError.{StopError}
+use Rattle.bdb_session.specs.declared.error.StopError.TheVariants.{Fault}
 use Rattle.bdb_session.specs.Known.{Known, Agrees, Remembers}
 use Rattle.bdb_session.specs.Machine.{command_outcome}
 use Rattle.bdb_session.specs.Outcome.{State, Outcome, Done, commit_count, start_from, state_after}

@@ -6,7 +6,7 @@ use Rattle.bdb_canon.specs.declared.sizes.Counts.{Counts}
 use Rattle.bdb_catalog.specs.Bases.{StoresValid}
 use Rattle.bdb_keep.specs.Tables.{Tables}
 use Rattle.bdb_undo.specs.Histories.{Kept}
-use Rattle.bdb_undo.specs.Timelines.{Timeline, StandsFor}
+use Rattle.bdb_undo.specs.Timelines.{Timeline, KeepsTimeline}
 use Rattle.bdb_session.specs.Outcome.{State, start_from}
 
 -- what a session knows: the relations and users, the sizes of the base, and the changes that led to it and from it
@@ -31,7 +31,7 @@ pub record AgreesOnSome (t : Tables) (k : Known) : Type 0 where
 -- which undo and redo lead. There is at most one such timeline.
 pub record Remembers (t : Tables) (k : Known) (s : Timeline) : Type 0 where
   pub agrees : Agrees t k (start_from s.now)
-  pub history : StandsFor k.history s
+  pub history : KeepsTimeline k.history s
 
 -- there is such a timeline
 pub record RemembersSome (t : Tables) (k : Known) : Type 0 where

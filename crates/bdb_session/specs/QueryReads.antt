@@ -13,7 +13,7 @@ use Rattle.bdb_keep.specs.Seen.{Seen}
 use Rattle.bdb_queries.specs.Slots.{path_of}
 use Rattle.bdb_session.specs.Known.{Known, Agrees}
 use Rattle.bdb_session.specs.Outcome.{State}
-use Rattle.bdb_session.specs.declared.stop.StopError.{StopError}
+use Rattle.bdb_session.specs.declared.error.StopError.{StopError}
 use Rattle.bdb_trans.specs.Bounds.{product_of}
 
 -- each world that an item's path names, whichever users are chosen, has at most so many signed tuples

@@ -6,7 +6,7 @@ use Rattle.bdb_base.specs.States.{is_state}
 use Rattle.bdb_base.specs.WorldRows.{world_of}
 use Rattle.bdb_base.specs.declared.kinds.Stmt.{Stmt}
 use Rattle.bdb_keep.specs.Seen.{Seen}
-use Rattle.bdb_session.specs.declared.stop.StopError.{StopError}
+use Rattle.bdb_session.specs.declared.error.StopError.{StopError}
 use Rattle.bdb_session.specs.Known.{Known, Agrees}
 use Rattle.bdb_session.specs.Outcome.{State}
 use Rattle.bdb_why.specs.Ends.{ends_in}

@@ -12,12 +12,12 @@ ghost use Rattle.bdb_bind.specs.Fits.{fits_catalog, is_allowed};
 ghost use Rattle.bdb_undo.specs.Timelines.{Timeline};
 ghost use Rattle.bdb_val.specs.Steps.{IsChanging};
 
+use crate::error::StopError;
 use crate::open::session_over;
 use crate::reading::{Reading, read_piece};
 use crate::refusals::refusal_from;
 use crate::reply::Reply;
 use crate::session::Session;
-use crate::stop::StopError;
 use crate::transact::{begin, commit};
 use bdb_base::{Exact, List};
 use bdb_bind::{Bound, bind_by};

@@ -11,9 +11,9 @@ ghost use Rattle.bdb_session.specs.Within.{TellsChange, TellsWithin, sized};
 ghost use Rattle.bdb_val.specs.Steps.{IsChanging};
 
 use crate::changes::{replacement, statements_taken};
+use crate::error::StopError;
 use crate::reply::Reply;
 use crate::session::Session;
-use crate::stop::StopError;
 use crate::transact::stop_from;
 use bdb_base::{Cond, Exact, List, Path, SetCol, Sign, Stmt, changed};
 use bdb_bind::Bound;

@@ -9,11 +9,11 @@ ghost use Rattle.bdb_session.specs.Sizes.{limit_passed};
 ghost use Rattle.bdb_session.specs.Within.{TellsChange, TellsWithin, learned, nothing_new};
 
 use crate::changes::{relation_added, user_added};
+use crate::error::StopError;
 use crate::limits::limit_passed;
 use crate::news::{Names, News};
 use crate::reply::Reply;
 use crate::session::Session;
-use crate::stop::StopError;
 use crate::transact::stop_from;
 use bdb_base::{Catalog, Exact, RelDef, Txt, UserSlot};
 use bdb_bind::{Bound, NameIndex};

@@ -5,12 +5,12 @@ ghost use Rattle.bdb_session.specs.Bounds.{RefusedUnwritten, StandsUnwritten};
 ghost use Rattle.bdb_session.specs.Known.{AgreesOnSome};
 ghost use Rattle.bdb_session.specs.Machine.{bound_outcome};
 ghost use Rattle.bdb_session.specs.Within.{TellsChange, TellsWithin, sized};
-ghost use Rattle.bdb_update.specs.Bounds.{WritesWithin};
+ghost use Rattle.bdb_update.specs.Bounds.{WritesWithinMore};
 
 use crate::changes::statement_added;
+use crate::error::StopError;
 use crate::reply::Reply;
 use crate::session::Session;
-use crate::stop::StopError;
 use bdb_base::Stmt;
 use bdb_bind::Bound;
 use bdb_canon::Counts;
@@ -38,7 +38,7 @@ impl Session {
             (K.seen keeper.old) (K.seen keeper.new) result }
         ensures change { TellsChange (λ s. bound_outcome s (Bound.Insert stmt))
             (sized self.now counts.old) change.new (K.seen keeper.old) result }
-        ensures writes { OnOk result (WritesWithin (length stmt.path + 2) 8 (K.seen keeper.old)
+        ensures writes { OnOk result (WritesWithinMore (length stmt.path + 2) 8 (K.seen keeper.old)
             (K.seen keeper.new)) }
         ensures refused { RefusedUnwritten (K.seen keeper.old) (K.seen keeper.new) result }
         ensures already { StandsUnwritten stmt (sized self.now counts.old) (K.seen keeper.old)

@@ -9,10 +9,10 @@ ghost use Rattle.bdb_session.specs.Machine.{bound_outcome};
 ghost use Rattle.bdb_session.specs.Within.{TellsChange, TellsWithin, learned, nothing_new};
 
 use crate::changes::user_dropped;
+use crate::error::StopError;
 use crate::news::{Names, News};
 use crate::reply::Reply;
 use crate::session::Session;
-use crate::stop::StopError;
 use crate::transact::stop_from;
 use bdb_base::{Catalog, Exact, Txt, UserSlot, user_name};
 use bdb_bind::{Bound, NameIndex};

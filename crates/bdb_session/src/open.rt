@@ -14,8 +14,8 @@ ghost use Rattle.bdb_session.specs.Opening.{opening, KnowsStored, Opens};
 ghost use Rattle.bdb_undo.specs.Histories.{nothing_kept};
 ghost use Rattle.bdb_undo.specs.Timelines.{started};
 
+use crate::error::StopError;
 use crate::session::Session;
-use crate::stop::StopError;
 use crate::transact::{begin, commit, stop_from};
 use bdb_base::{Base, Catalog, List};
 use bdb_bind::NameIndex;

@@ -12,9 +12,9 @@ ghost use Rattle.bdb_session.specs.QueryReads.{ReadsAsBounded};
 ghost use Rattle.bdb_session.specs.Telling.{ReadsWithin, WritesNothing};
 ghost use Rattle.bdb_session.specs.Within.{IsSaid, TellsWithin};
 
+use crate::error::StopError;
 use crate::reply::Reply;
 use crate::session::Session;
-use crate::stop::StopError;
 use bdb_base::{List, Query};
 use bdb_bind::Bound;
 use bdb_exec::{ExecError, Rows, run_plan};

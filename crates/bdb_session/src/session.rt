@@ -7,11 +7,11 @@ ghost use Rattle.bdb_session.specs.declared.event.Event.TheVariants.{Piece};
 ghost use Rattle.bdb_session.specs.declared.reading.Reading.TheVariants as reading;
 
 use crate::course::{Course, course_of};
+use crate::error::StopError;
 use crate::event::Event;
 use crate::reading::{Reading, read_piece, says_nothing};
 use crate::refusals::refusal_from;
 use crate::reply::Reply;
-use crate::stop::StopError;
 use bdb_base::{Catalog, List};
 use bdb_bind::{NameIndex, bind_by};
 use bdb_canon::Counts;

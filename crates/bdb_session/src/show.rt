@@ -11,9 +11,9 @@ ghost use Rattle.bdb_session.specs.Outcome.{State, Done};
 ghost use Rattle.bdb_session.specs.Telling.{ReadsWithin, WritesNothing, world_reads};
 ghost use Rattle.bdb_session.specs.Within.{IsSaid, TellsWithin};
 
+use crate::error::StopError;
 use crate::reply::Reply;
 use crate::session::Session;
-use crate::stop::StopError;
 use crate::transact::stop_from;
 use bdb_base::limits::MOST_LINES;
 use bdb_base::{Path, live_count};

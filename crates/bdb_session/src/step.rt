@@ -10,10 +10,10 @@ ghost use Rattle.bdb_session.specs.Served.{Serves};
 ghost use Rattle.bdb_session.specs.Within.{Closes, TellsChange, TellsWithin, catalog_by, learned, noted_by, nothing_new};
 
 use crate::change::Selection;
+use crate::error::StopError;
 use crate::news::{Names, News};
 use crate::reply::Reply;
 use crate::session::Session;
-use crate::stop::StopError;
 use crate::transact::{begin, commit};
 use bdb_bind::Bound;
 use bdb_keep::Keeper;

@@ -3,7 +3,7 @@ ghost use Rattle.std.specs.Prelude.{◌≡◌, true};
 ghost use Rattle.bdb_keep.specs.Calls.{IsBegin, IsCommit};
 ghost use Rattle.bdb_keep.specs.Seen.{IsStill};
 
-use crate::stop::StopError;
+use crate::error::StopError;
 use bdb_keep::{KeepError, Keeper};
 use bdb_tables::TabError;
 

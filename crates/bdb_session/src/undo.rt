@@ -12,11 +12,11 @@ ghost use Rattle.bdb_session.specs.Undoing.{led, stepped};
 ghost use Rattle.bdb_session.specs.Within.{IsKept, catalog_by, learned, nothing_new};
 
 use crate::create::{names_with_relation, names_with_user};
+use crate::error::StopError;
 use crate::leave::names_without_user;
 use crate::news::{Names, News};
 use crate::reply::Reply;
 use crate::session::Session;
-use crate::stop::StopError;
 use crate::transact::{begin, commit, stop_from};
 use bdb_base::{Catalog, Exact, Txt, UserSlot};
 use bdb_bind::NameIndex;

@@ -8,9 +8,9 @@ ghost use Rattle.bdb_session.specs.Outcome.{State, Done};
 ghost use Rattle.bdb_session.specs.Telling.{ReadsWithin, WritesNothing, why_reads};
 ghost use Rattle.bdb_session.specs.Within.{IsSaid, TellsWithin};
 
+use crate::error::StopError;
 use crate::reply::Reply;
 use crate::session::Session;
-use crate::stop::StopError;
 use crate::transact::stop_from;
 use bdb_base::Stmt;
 use bdb_bind::Bound;

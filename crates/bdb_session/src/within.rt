@@ -5,10 +5,10 @@ ghost use Rattle.bdb_session.specs.Machine.{clash_with};
 ghost use Rattle.bdb_session.specs.Outcome.{State, Done, Refused};
 ghost use Rattle.bdb_session.specs.Within.{IsSaid, Refuses};
 
+use crate::error::StopError;
 use crate::refusals::clash_with;
 use crate::reply::Reply;
 use crate::session::Session;
-use crate::stop::StopError;
 use bdb_base::{List, Stmt};
 use bdb_keep::Keeper;
 use bdb_render::{Refusal, count_reply, ok_reply};

@@ -14,7 +14,7 @@ use Rattle.bdb_key.specs.Reading.{Leads, NoneLeads, NoneReads, Reads}
 use Rattle.bdb_key.specs.Rows.{IsAnyMark, IsTupleRow, mark_bytes, tuple_bytes}
 use Rattle.bdb_key.proofs.Readings.{num_form}
 use Rattle.bdb_render.specs.Replies.{count_reply, held_line, mark_text, relation_name, row_text, sign_text, tuple_text, world_reply}
-use Rattle.bdb_shown.specs.Rows.{Spell, Spells, raw, told, told_line}
+use Rattle.bdb_shown.specs.Rows.{Spell, SpellsRow, raw, told, told_line}
 use Rattle.bdb_shown.specs.declared.row.Row.{Row}
 use Rattle.bdb_tables.specs.InUseLaws.{mark_rows_are_one}
 use Rattle.bdb_tables.specs.Marks.{Mark}
@@ -50,12 +50,12 @@ tuple_written c bytes values old named out rel l name row t h =
 -- ---- a row
 
 -- the mark that bytes are is the row's
-pub mark_read : (row : List ℕ × List ℕ) (mark : Mark) → Reads IsAnyMark mark_bytes row.1 mark → (h : Held) → Spells row h → (mark.0 ≡ h.sign) × (mark.1 ≡ h.explicit)
+pub mark_read : (row : List ℕ × List ℕ) (mark : Mark) → Reads IsAnyMark mark_bytes row.1 mark → (h : Held) → SpellsRow row h → (mark.0 ≡ h.sign) × (mark.1 ≡ h.explicit)
 mark_read row mark r h s =
     let e : mark ≡ (h.sign, h.explicit) = mark_rows_are_one mark (h.sign, h.explicit) tt tt (r.spelled ∙ sym s.mark.spelled) in
     (ap (λ (m : Mark). m.0) e, ap (λ (m : Mark). m.1) e)
 
-pub no_mark : (row : List ℕ × List ℕ) → NoneReads IsAnyMark mark_bytes row.1 → (h : Held) → Spells row h → ⊥
+pub no_mark : (row : List ℕ × List ℕ) → NoneReads IsAnyMark mark_bytes row.1 → (h : Held) → SpellsRow row h → ⊥
 no_mark row none h s = none (h.sign, h.explicit) s.mark
 
 -- a line is written where its parts are
@@ -63,7 +63,7 @@ pub line_written : (c : Catalog) (own : Bool) (row : List ℕ × List ℕ) (sign
     → Reads IsAnyMark mark_bytes row.1 (sign, explicit) → signed ≡ old ++ sign_text sign ++ codes " "
     → ((t : Tuple) → Reads IsTupleRow tuple_bytes row.0 t → tupled ≡ signed ++ tuple_text c t)
     → mark ≡ (own && explicit) → out ≡ tupled ++ codes " " ++ mark_text mark ++ 10 ∷ []
-    → (h : Held) → Spells row h → out ≡ old ++ told_line c own h
+    → (h : Held) → SpellsRow row h → out ≡ old ++ told_line c own h
 line_written c own row sign explicit mark old signed tupled out r s t marked m h is =
     let e = mark_read row (sign, explicit) r h is in
     let text = tuple_text c h.tuple in
@@ -84,7 +84,7 @@ line_written c own row sign explicit mark old signed tupled out r s t marked m h
 -- the row of a world whose bytes stand at an index, whatever stands for one past the end
 pub record IsNext (rows : List Row) (held : List Held) (i : ℕ) (d : Row) : Type 0 where
   pub here : Held
-  pub spells : Spells (raw (get_or rows i d)) here
+  pub spells : SpellsRow (raw (get_or rows i d)) here
   pub within : i < length held
   pub is : here ≡ get_or held i here
 
@@ -105,7 +105,7 @@ as_many (r ∷ rows) (h ∷ held) s = ap suc (as_many rows held s.1)
 -- one line more
 pub lines_more : (c : Catalog) (own : Bool) (rows : List Row) (i : ℕ) (d : Row) (old new : List ℕ) → i < length rows
     → ((held : List Held) → Spell (map raw rows) held → old ≡ flat_map (told_line c own) (take i held))
-    → ((h : Held) → Spells (raw (get_or rows i d)) h → new ≡ old ++ told_line c own h)
+    → ((h : Held) → SpellsRow (raw (get_or rows i d)) h → new ≡ old ++ told_line c own h)
     → (held : List Held) → Spell (map raw rows) held → new ≡ flat_map (told_line c own) (take (i + 1) held)
 lines_more c own rows i d old new lt before line held s =
     let n = row_next rows held i d lt s in

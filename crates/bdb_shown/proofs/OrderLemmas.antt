@@ -10,10 +10,10 @@ use Rattle.bdb_base.specs.declared.kinds.Held.{Held}
 use Rattle.bdb_keep.specs.Spans.{Listed}
 use Rattle.bdb_keep.specs.Tables.{bytes_cmp}
 use Rattle.bdb_key.specs.Rows.{tuple_bytes}
-use Rattle.bdb_shown.specs.Rows.{AreOrdered, Spell, Spells, raw}
+use Rattle.bdb_shown.specs.Rows.{AreOrdered, Spell, SpellsRow, raw}
 use Rattle.bdb_shown.specs.declared.row.Row.{Row}
 use Rattle.bdb_tables.specs.InUseLaws.{tuples_in_order}
-use Rattle.bdb_val.specs.WorldReads.{is_before}
+use Rattle.bdb_val.specs.WorldReads.{tuple_is_before}
 
 -- ---- two lists, one by one
 
@@ -70,7 +70,7 @@ module _ {A B : Type 0} (R : A → B → Type 0) where
 -- ---- in order
 
 -- the bytes of two rows compare as their tuples
-rows_compare : (r s : List ℕ × List ℕ) (g h : Held) → Spells r g → Spells s h → bytes_cmp r.0 s.0 ≡ tuple_cmp g.tuple h.tuple
+rows_compare : (r s : List ℕ × List ℕ) (g h : Held) → SpellsRow r g → SpellsRow s h → bytes_cmp r.0 s.0 ≡ tuple_cmp g.tuple h.tuple
 rows_compare r s g h p q =
     ap (λ x. bytes_cmp x s.0) (sym p.tuple.spelled) ∙ ap (λ x. bytes_cmp (tuple_bytes g.tuple) x) (sym q.tuple.spelled)
     ∙ tuples_in_order g.tuple h.tuple p.tuple.fits q.tuple.fits
@@ -84,25 +84,25 @@ length_raw : (rows : List Row) → length (map raw rows) ≡ length rows
 length_raw [] = refl
 length_raw (r ∷ rows) = ap suc (length_raw rows)
 
-pub sorted_alike : (rows : List Row) (held : List Held) → Spell (map raw rows) held → IsSortedBy (λ a b. is_lt (bytes_cmp a.tuple.now b.tuple.now)) rows → IsSortedBy is_before held
+pub sorted_alike : (rows : List Row) (held : List Held) → Spell (map raw rows) held → IsSortedBy (λ a b. is_lt (bytes_cmp a.tuple.now b.tuple.now)) rows → IsSortedBy tuple_is_before held
 sorted_alike [] [] z up k d low high = absurd (omega arith)
 sorted_alike [] (h ∷ held) z up k d low high = absurd z
 sorted_alike (r ∷ rows) held z up k d low high =
-    let many : length held ≡ length (map raw (r ∷ rows)) = zip_length Spells (map raw (r ∷ rows)) held z in
+    let many : length held ≡ length (map raw (r ∷ rows)) = zip_length SpellsRow (map raw (r ∷ rows)) held z in
     let raws : length (map raw (r ∷ rows)) ≡ length (r ∷ rows) = length_raw (r ∷ rows) in
     let within : k + 1 < length (r ∷ rows) = omega (arith, many, raws, high) in
-    let a = subst (λ x. Spells x (get_or held (k + 1) d)) (raw_at (r ∷ rows) (k + 1) r) (zip_at Spells (map raw (r ∷ rows)) held (k + 1) (raw r) d (omega (arith, within, raws)) z) in
-    let b = subst (λ x. Spells x (get_or held k d)) (raw_at (r ∷ rows) k r) (zip_at Spells (map raw (r ∷ rows)) held k (raw r) d (omega (arith, within, raws)) z) in
+    let a = subst (λ x. SpellsRow x (get_or held (k + 1) d)) (raw_at (r ∷ rows) (k + 1) r) (zip_at SpellsRow (map raw (r ∷ rows)) held (k + 1) (raw r) d (omega (arith, within, raws)) z) in
+    let b = subst (λ x. SpellsRow x (get_or held k d)) (raw_at (r ∷ rows) k r) (zip_at SpellsRow (map raw (r ∷ rows)) held k (raw r) d (omega (arith, within, raws)) z) in
     ap is_lt (sym (rows_compare (raw (get_or (r ∷ rows) (k + 1) r)) (raw (get_or (r ∷ rows) k r)) (get_or held (k + 1) d) (get_or held k d) a b)) ∙ up k r low within
 
 -- rows of a world in the order of their bytes
 pub record AreShownInOrder (rows : List Row) (held : List Held) : Type 0 where
   pub ordered : List Held
   pub moved : IsPermutation held ordered
-  pub sorted : IsSortedBy is_before ordered
+  pub sorted : IsSortedBy tuple_is_before ordered
   pub spelled : Spell (map raw rows) ordered
 
 pub shown_in_order : (span : Listed) (rows : List Row) (held : List Held) → Spell span held → AreOrdered span rows → AreShownInOrder rows held
 shown_in_order span rows held s o =
-    let m = moved_alike Spells span (map raw rows) held s o.moved in
+    let m = moved_alike SpellsRow span (map raw rows) held s o.moved in
     record { ordered = m.others; moved = m.moved; sorted = sorted_alike rows m.others m.zip o.sorted; spelled = m.zip }

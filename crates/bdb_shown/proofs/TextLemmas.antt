@@ -4,11 +4,11 @@ use Rattle.std.specs.List.{flat_map, list_all}
 use Rattle.std.proofs.lemmas.Bool.{and_parts, false≢true, eq-eqb, not-true, cond-false}
 use Rattle.std.proofs.lemmas.Grind.{flat_map-append}
 use Rattle.bdb_base.specs.Texts.{quoted_byte}
-use Rattle.bdb_key.specs.Reading.{EndsAt, HasNoEnd}
+use Rattle.bdb_key.specs.Reading.{HasNoEnd, SplitsAtZero}
 use Rattle.bdb_shown.specs.Rows.{stands_alone}
 
 -- where bytes begin with a 0, the text that ends there is empty
-pub text_ends : (others left more : List ℕ) → EndsAt (0 ∷ others) left more → (left ≡ []) × (others ≡ more)
+pub text_ends : (others left more : List ℕ) → SplitsAtZero (0 ∷ others) left more → (left ≡ []) × (others ≡ more)
 text_ends others [] more h = let e : 0 ∷ others ≡ 0 ∷ more = h.split in (refl, cc)
 text_ends others (c ∷ left) more h =
     let e : 0 ∷ others ≡ c ∷ (left ++ 0 ∷ more) = h.split in
@@ -16,7 +16,7 @@ text_ends others (c ∷ left) more h =
     absurd (false≢true (subst (λ n. HasNoEnd (n ∷ left)) (sym z) h.none))
 
 -- the text of bytes that begin with another byte begins with it
-pub text_goes_on : (b : ℕ) (others left more : List ℕ) → nat_eq b 0 ≡ false → EndsAt (b ∷ others) left more → (after : List ℕ) × (left ≡ b ∷ after) × EndsAt others after more
+pub text_goes_on : (b : ℕ) (others left more : List ℕ) → nat_eq b 0 ≡ false → SplitsAtZero (b ∷ others) left more → (after : List ℕ) × (left ≡ b ∷ after) × SplitsAtZero others after more
 text_goes_on b others [] more some h =
     let e : b ∷ others ≡ 0 ∷ more = h.split in
     let z : b ≡ 0 = cc in
@@ -28,13 +28,13 @@ text_goes_on b others (c ∷ left) more some h =
     (left, ap (λ n. n ∷ left) z, record { none = (and_parts (not (nat_eq c 0)) (list_all (λ n. not (nat_eq n 0)) left) h.none).1; split = f })
 
 -- no bytes have no text
-pub no_text : (left more : List ℕ) → EndsAt [] left more → ⊥
+pub no_text : (left more : List ℕ) → SplitsAtZero [] left more → ⊥
 no_text [] more h = let e : [] ≡ 0 ∷ more = h.split in cc
 no_text (c ∷ left) more h = let e : [] ≡ c ∷ (left ++ 0 ∷ more) = h.split in cc
 
 -- the text of bytes that begin with a run begins with it
-pub text_runs : (n : ℕ) (bytes left more : List ℕ) → n ≤ length bytes → list_all stands_alone (take n bytes) ≡ true → EndsAt bytes left more
-    → (after : List ℕ) × (left ≡ take n bytes ++ after) × EndsAt (drop n bytes) after more
+pub text_runs : (n : ℕ) (bytes left more : List ℕ) → n ≤ length bytes → list_all stands_alone (take n bytes) ≡ true → SplitsAtZero bytes left more
+    → (after : List ℕ) × (left ≡ take n bytes ++ after) × SplitsAtZero (drop n bytes) after more
 text_runs zero bytes left more within run h = (left, refl, h)
 text_runs (suc n) [] left more within run h = absurd (omega arith)
 text_runs (suc n) (b ∷ bytes) left more within run h =
@@ -60,7 +60,7 @@ run_written (b ∷ bytes) h =
 -- what was written, with what is left of the text, is what is wanted
 pub record IsLeft (rest out wanted more : List ℕ) : Type 0 where
   pub left : List ℕ
-  pub ends : EndsAt rest left more
+  pub ends : SplitsAtZero rest left more
   pub written : out ++ flat_map quoted_byte left ≡ wanted
 
 pub left_end : (others out wanted more : List ℕ) → IsLeft (0 ∷ others) out wanted more → (out ≡ wanted) × (others ≡ more)

@@ -8,7 +8,7 @@ use Rattle.bdb_base.specs.declared.kinds.Value.{Value}
 use Rattle.bdb_base.specs.declared.kinds.Value.TheVariants.{Int, Text}
 use Rattle.bdb_key.specs.Bytes.{int_bytes, raised, value_bytes, values_bytes}
 use Rattle.bdb_key.specs.Grammar.{ArePlain, IsPlainValue}
-use Rattle.bdb_key.specs.Reading.{EndsAt, Leads, NoneLeads, Reads}
+use Rattle.bdb_key.specs.Reading.{Leads, NoneLeads, Reads, SplitsAtZero}
 use Rattle.bdb_key.proofs.Compared.{printing}
 use Rattle.bdb_key.proofs.Readings.{no_end, value_form, value_forms}
 use Rattle.bdb_render.specs.Replies.{row_text}
@@ -29,7 +29,7 @@ int_shorter n bytes rest h =
 
 -- a value that bytes begin with which begin with no integer is a text, behind a byte
 pub text_leads : (bytes : List ℕ) → NoneLeads (FitsSigned w64) int_bytes bytes → (v : Value) (more : List ℕ) → Leads IsPlainValue value_bytes bytes v more
-    → (text : List ℕ) × (quoted text ≡ value_text v) × EndsAt (drop 1 bytes) text more
+    → (text : List ℕ) × (quoted text ≡ value_text v) × SplitsAtZero (drop 1 bytes) text more
 text_leads bytes none (Int m) more l = absurd (none m more (record { fits = l.fits; split = l.split }))
 text_leads bytes none (Text text) more l =
     (text, refl, record { none = no_end text (printing text l.fits); split = ap (drop 1) l.split ∙ append_assoc text (0 ∷ []) more })

@@ -17,7 +17,7 @@ use Rattle.bdb_shown.specs.Showing.{ReadsWorld, ShowsRows, ShowsWorld}
 use Rattle.bdb_shown.proofs.ReadLemmas.{AreStored, are_stored, rows_stored}
 use Rattle.bdb_tables.specs.Grammar.{InGrammar}
 use Rattle.bdb_val.specs.Reads.{world_prefix}
-use Rattle.bdb_val.specs.WorldReads.{AreInOrder, AreRowsAt, held_row}
+use Rattle.bdb_val.specs.WorldReads.{AreInTupleOrder, AreRowsAt, held_row}
 use Rattle.bdb_val.specs.declared.stored.StoredRow.{StoredRow}
 use Rattle.bdb_val.proofs.WorldLemmas.{read_is_world}
 use Rattle.bdb_worlds.specs.Bounds.{EndsWithin}
@@ -43,7 +43,7 @@ module _ (t : Tables) (path : List ℕ) (wid : ℕ) (own : Bool) (catalog : Cata
   abbrev reply : ShowsRows catalog own (map held_row stored.stored) text
   reply = replies (map held_row stored.stored) stored.spelled
 
-  in_order : AreInOrder stored.stored reply.ordered
+  in_order : AreInTupleOrder stored.stored reply.ordered
   in_order = record { moved = reply.moved; sorted = reply.sorted }
 
   rows_at : AreRowsAt t wid reply.ordered

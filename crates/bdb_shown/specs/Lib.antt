@@ -1,2 +1,3 @@
+-- words between crates, and for private loops and lemmas
 pub mod Rows
 pub mod Showing

@@ -45,13 +45,13 @@ abbrev pub raw : Row → List ℕ × List ℕ
 raw row = (row.tuple.now, row.mark.now)
 
 -- these bytes are the tuple of a row of a world, and its sign and mark
-pub record Spells (row : List ℕ × List ℕ) (held : Held) : Type 0 where
+pub record SpellsRow (row : List ℕ × List ℕ) (held : Held) : Type 0 where
   pub tuple : Reads IsTupleRow tuple_bytes row.0 held.tuple
   pub mark : Reads IsAnyMark mark_bytes row.1 (held.sign, held.explicit)
 
 -- these bytes are the rows of a world, one after the other
 abbrev pub Spell : Listed → List Held → Type 0
-Spell rows held = AllZip Spells rows held
+Spell rows held = AllZip SpellsRow rows held
 
 -- these are the rows, and none comes before the one in front of it
 pub record AreOrdered (rows : Listed) (ordered : List Row) : Type 0 where

@@ -9,14 +9,14 @@ use Rattle.bdb_catalog.specs.Bases.{HasUsers}
 use Rattle.bdb_keep.specs.Tables.{Tables}
 use Rattle.bdb_render.specs.Replies.{world_reply}
 use Rattle.bdb_shown.specs.Rows.{told}
-use Rattle.bdb_val.specs.WorldReads.{is_before}
+use Rattle.bdb_val.specs.WorldReads.{tuple_is_before}
 use Rattle.bdb_worlds.specs.Bounds.{EndsWithin}
 
 -- the reply shows these rows, by tuple
 pub record ShowsRows (catalog : Catalog) (own : Bool) (held : List Held) (text : List ℕ) : Type 0 where
   pub ordered : List Held
   pub moved : IsPermutation held ordered
-  pub sorted : IsSortedBy is_before ordered
+  pub sorted : IsSortedBy tuple_is_before ordered
   pub shows : text ≡ world_reply catalog (record { held = map (told own) ordered })
 
 -- whichever valid base the tables store with the users of a path, this reply shows the world of the path

@@ -5,7 +5,7 @@ ghost use Rattle.bdb_base.specs.declared.tuple.Tuple.{Tuple};
 ghost use Rattle.bdb_key.specs.Reading.{Reads};
 ghost use Rattle.bdb_key.specs.Rows.{IsTupleRow, tuple_bytes};
 ghost use Rattle.bdb_render.specs.Replies.{mark_text, relation_name, sign_text, tuple_text, world_reply};
-ghost use Rattle.bdb_shown.specs.Rows.{Spell, Spells, raw, told, told_line};
+ghost use Rattle.bdb_shown.specs.Rows.{Spell, SpellsRow, raw, told, told_line};
 ghost use Rattle.std.specs.Prelude.{List};
 
 use crate::row::Row;
@@ -43,7 +43,7 @@ fn append_line(
     own: bool,
     row: &Row<'_>,
 ) -> Result<(), AllocError>
-    ensures { OnOk result ((held : Held) → Spells (raw row.now) held
+    ensures { OnOk result ((held : Held) → SpellsRow (raw row.now) held
         → out.new.items ≡ out.old.items ++ told_line catalog.now own held) }
 {
     match mark_of(row.mark) {

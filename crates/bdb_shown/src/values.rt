@@ -5,7 +5,7 @@ ghost use Rattle.bdb_base.specs.Texts.{quoted, quoted_byte, value_text};
 ghost use Rattle.bdb_base.specs.declared.kinds.Value.{Value};
 ghost use Rattle.bdb_key.specs.Bytes.{value_bytes, values_bytes};
 ghost use Rattle.bdb_key.specs.Grammar.{ArePlain, IsPlainValue};
-ghost use Rattle.bdb_key.specs.Reading.{EndsAt, Leads, Reads};
+ghost use Rattle.bdb_key.specs.Reading.{Leads, Reads, SplitsAtZero};
 ghost use Rattle.bdb_render.specs.Replies.{row_text};
 ghost use Rattle.bdb_shown.specs.Rows.{stands_alone};
 
@@ -58,7 +58,7 @@ fn behind_mark(bytes: &[u8]) -> &[u8]
 
 // Appends the text that ends at the first 0 of these bytes in quotes, and gives the bytes behind that.
 fn append_text<'a>(out: &mut Vec<u8>, bytes: &'a [u8]) -> Result<&'a [u8], AllocError>
-    ensures text { IfOk result (λ rest. (text more : List ℕ) → EndsAt bytes.now text more
+    ensures text { IfOk result (λ rest. (text more : List ℕ) → SplitsAtZero bytes.now text more
         → (out.new.items ≡ out.old.items ++ quoted text) × (rest.now ≡ more)) }
     ensures shorter { IfOk result (λ rest. length rest.now ≤ length bytes.now) }
 {
@@ -70,7 +70,7 @@ fn append_text<'a>(out: &mut Vec<u8>, bytes: &'a [u8]) -> Result<&'a [u8], Alloc
 
 // Appends the bytes before the first 0, each quote among them doubled, and gives the bytes behind it.
 fn append_doubled<'a>(out: &mut Vec<u8>, bytes: &'a [u8]) -> Result<&'a [u8], AllocError>
-    ensures text { IfOk result (λ rest. (text more : List ℕ) → EndsAt bytes.now text more
+    ensures text { IfOk result (λ rest. (text more : List ℕ) → SplitsAtZero bytes.now text more
         → (out.new.items ≡ out.old.items ++ flat_map quoted_byte text) × (rest.now ≡ more)) }
     ensures shorter { IfOk result (λ rest. length rest.now ≤ length bytes.now) }
 {

@@ -8,10 +8,10 @@ use Rattle.std.proofs.lemmas.Cmp.{nat_list_cmp_total, eq_by_cmp_equiv}
 use Rattle.sqlite_rules.specs.Lists.{Has}
 use Rattle.sqlite_rules.proofs.ListLemmas.{has_left, has_right}
 use Rattle.sqlite.specs.State.{State}
-use Rattle.bdb_memory.specs.Held.{written}
+use Rattle.bdb_memory.specs.StoreContents.{written}
 use Rattle.bdb_keep.specs.Tables.{Tables, bytes_cmp, set_at}
 use Rattle.bdb_keep.proofs.RowsLemmas.{get-set_at, same_place, set_at-same}
-use Rattle.bdb_sql.specs.Rows.{HasRows}
+use Rattle.bdb_sql.specs.Rows.{TreesHave}
 use Rattle.bdb_sql.specs.Written.{HasTable, SetsPlace, SetsPlaces, Turns}
 
 written_push : (ps : List (List ℕ)) (p : List ℕ) (now t : Tables) → written (ps ++ p ∷ []) now t ≡ set_at (written ps now t) p (fin.get now p)
@@ -51,7 +51,7 @@ module _ (all : List (List ℕ)) (at : ℕ) (now : Tables) (place : List ℕ) (i
   pub next_set : (row : Option (List ℕ)) (old mid new : State) → row ≡ fin.get now place → SetsPlaces (take at all) now old mid → SetsPlace place row mid new → SetsPlaces (take (at + 1) all) now old new
   next_set row old mid new row_is was set = record {
     table = set.table;
-    rows = λ t are. subst (HasRows new.now.trees)
+    rows = λ t are. subst (TreesHave new.now.trees)
         (ap (set_at (written (take at all) now t) place) row_is ∙ sym (written_push (take at all) place now t) ∙ ap (λ ps. written ps now t) (sym next_is))
         (set.rows (written (take at all) now t) (was.rows t are));
     committed = set.shows.committed_is ∙ was.committed;
@@ -62,7 +62,7 @@ module _ (all : List (List ℕ)) (at : ℕ) (now : Tables) (place : List ℕ) (i
   pub sets_again : (old mid : State) → Has (take at all) place → SetsPlaces (take at all) now old mid → SetsPlaces (take (at + 1) all) now old mid
   sets_again old mid there was = record {
     table = was.table;
-    rows = λ t are. subst (HasRows mid.now.trees)
+    rows = λ t are. subst (TreesHave mid.now.trees)
         (sym (set_at-same (written (take at all) now t) place (fin.get now place) (written_has (take at all) now t place (inl there))) ∙ sym (written_push (take at all) place now t)
         ∙ ap (λ ps. written ps now t) (sym next_is))
         (was.rows t are);
@@ -81,7 +81,7 @@ module _ (all : List (List ℕ)) (at : ℕ) (now : Tables) (place : List ℕ) (i
 turns_all : (places : List (List ℕ)) (last kept : Tables) (old mid new : State) → written places kept last ≡ kept → HasTable old mid → SetsPlaces places kept mid new → Turns last kept old new
 turns_all places last kept old mid new all made set = record {
   table = set.table;
-  rows = λ stores. subst (HasRows new.now.trees) all (set.rows last (made.rows last stores));
+  rows = λ stores. subst (TreesHave new.now.trees) all (set.rows last (made.rows last stores));
   committed = set.committed ∙ made.committed;
   mode = set.mode;
 }

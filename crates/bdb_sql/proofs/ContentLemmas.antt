@@ -12,13 +12,13 @@ use Rattle.bdb_base.proofs.OptionLemmas.{same_option}
 use Rattle.bdb_keep.specs.Tables.{LieInTables, Tables}
 use Rattle.bdb_keep.proofs.Gets.{tables_from_gets}
 use Rattle.bdb_sql.specs.Content.{HasOneContent, LeavesOneContent}
-use Rattle.bdb_sql.specs.Entries.{StandsFor}
+use Rattle.bdb_sql.specs.Entries.{IsFiledRow}
 use Rattle.bdb_sql.specs.Kept.{kept_schema, kept_table, no_schema}
-use Rattle.bdb_sql.specs.Rows.{AreRowsOf}
+use Rattle.bdb_sql.specs.Rows.{AreAllRows}
 use Rattle.bdb_sql.proofs.MakeLemmas.{never_both}
 
 -- a row stands for one row of the tables
-same_row : (u : Tables) (r : Row) (n m : ℕ) (k l c d : List ℕ) → StandsFor r n k c → StandsFor r m l d → fin.get u (m ∷ l) ≡ Some d → fin.get u (n ∷ k) ≡ Some c
+same_row : (u : Tables) (r : Row) (n m : ℕ) (k l c d : List ℕ) → IsFiledRow r n k c → IsFiledRow r m l d → fin.get u (m ∷ l) ≡ Some d → fin.get u (n ∷ k) ≡ Some c
 same_row u r n m k l c d a b some =
     let e = sym a.tab_is ∙ b.tab_is in
     let f = sym a.key_is ∙ b.key_is in
@@ -27,7 +27,7 @@ same_row u r n m k l c d a b some =
     let q : Some d ≡ Some c = cc in
     subst (λ x. fin.get u x ≡ Some c) p (some ∙ q)
 
-module _ (rows : List Row) (t u : Tables) (all : LieInTables t) (one : AreRowsOf rows t) (other : AreRowsOf rows u) where
+module _ (rows : List Row) (t u : Tables) (all : LieInTables t) (one : AreAllRows rows t) (other : AreAllRows rows u) where
   within : (q c : List ℕ) → fin.get t q ≡ Some c → fin.get u q ≡ Some c
   within [] c some = absurd (all [] c some)
   within (n ∷ k) c some =
@@ -35,7 +35,7 @@ module _ (rows : List Row) (t u : Tables) (all : LieInTables t) (one : AreRowsOf
       let v = other.each w.0 w.1 in
       same_row u w.0 n v.0 k v.1 c v.2 w.2 v.3 v.4
 
-same_tables : (rows : List Row) (t u : Tables) → LieInTables t → LieInTables u → AreRowsOf rows t → AreRowsOf rows u → t ≡ u
+same_tables : (rows : List Row) (t u : Tables) → LieInTables t → LieInTables u → AreAllRows rows t → AreAllRows rows u → t ≡ u
 same_tables rows t u lt lu a b = tables_from_gets t u (λ q. same_option (fin.get t q) (fin.get u q) (within rows t u lt a b q) (within rows u t lu b a q))
 
 pub one_content : HasOneContent

@@ -27,7 +27,7 @@ use Rattle.sqlite_rules.proofs.TableLemmas.{int_is}
 use Rattle.sqlite.specs.State.{State}
 use Rattle.bdb_base.proofs.SetLemmas.{is_eq-Equal}
 use Rattle.bdb_sql.specs.Kept.{kept_table, kept_schema}
-use Rattle.bdb_sql.specs.Changes.{StandsAt}
+use Rattle.bdb_sql.specs.Changes.{IsRowAt}
 use Rattle.bdb_sql.specs.Tied.{HoldsTable}
 
 -- a stored row as it is: its number, a number, and two blobs
@@ -122,7 +122,7 @@ blob_same : (a b : List ℕ) → value_cmp (Blob a) (Blob b) ≡ Equal → a ≡
 blob_same a b e = exact_bytes a b (sym (value_cmp-Blob a b) ∙ e)
 
 -- a row is where SQL's equality says it is
-pub same_key : (r : Row) (tab : ℕ) (key : List ℕ) → IsStored r → equal Binary (column r 1) (Int (pos tab)) ≡ true → equal Binary (column r 2) (Blob key) ≡ true → StandsAt tab key r
+pub same_key : (r : Row) (tab : ℕ) (key : List ℕ) → IsStored r → equal Binary (column r 1) (Int (pos tab)) ≡ true → equal Binary (column r 2) (Blob key) ≡ true → IsRowAt tab key r
 same_key r tab key s e f =
     let a : column r 1 ≡ Int s.tab = ap (λ x. column x 1) s.is in
     let b : column r 2 ≡ Blob s.key = ap (λ x. column x 2) s.is in
@@ -130,7 +130,7 @@ same_key r tab key s e f =
     let k = blob_same s.key key (equal_tied (Blob s.key) (Blob key) (subst (λ v. equal Binary v (Blob key) ≡ true) b f)) in
     (a ∙ ap Int m, b ∙ ap Blob k)
 
-pub key_same : (r : Row) (tab : ℕ) (key : List ℕ) → StandsAt tab key r → (equal Binary (column r 1) (Int (pos tab)) ≡ true) × (equal Binary (column r 2) (Blob key) ≡ true)
+pub key_same : (r : Row) (tab : ℕ) (key : List ℕ) → IsRowAt tab key r → (equal Binary (column r 1) (Int (pos tab)) ≡ true) × (equal Binary (column r 2) (Blob key) ≡ true)
 key_same r tab key at =
     (subst (λ v. equal Binary v (Int (pos tab)) ≡ true) (sym at.0) (equal_same (Int (pos tab)) refl), subst (λ v. equal Binary v (Blob key) ≡ true) (sym at.1) (equal_same (Blob key) refl))
 
@@ -150,7 +150,7 @@ own_number r s = subst (λ v. is_eq (value_cmp v (Int (id_in v))) ≡ true) (sym
 
 module _ (s : State) (holds : HoldsTable s) (tab : ℕ) (key : List ℕ) where
   -- one row at most is at a table and key
-  pub once_at : (a b : Row) → Has (s.now.trees 0) a → Has (s.now.trees 0) b → StandsAt tab key a → StandsAt tab key b → a ≡ b
+  pub once_at : (a b : Row) → Has (s.now.trees 0) a → Has (s.now.trees 0) b → IsRowAt tab key a → IsRowAt tab key b → a ≡ b
   once_at a b ha hb pa pb = tied_same (s.now.trees 0) a b holds.shaped.0 ha hb tie
     where
       sa : IsStored a

@@ -15,8 +15,8 @@ use Rattle.sqlite.specs.State.{State, Writes, ExecutesInside}
 use Rattle.sqlite.proofs.Callers.{runs_as}
 use Rattle.bdb_keep.specs.Tables.{Tables}
 use Rattle.bdb_sql.specs.Kept.{kept_table, kept_schema, no_schema}
-use Rattle.bdb_sql.specs.Rows.{AreRowsOf, HasRows, entry}
-use Rattle.bdb_sql.specs.Tied.{HoldsTable, IsReady}
+use Rattle.bdb_sql.specs.Rows.{AreAllRows, TreesHave, entry}
+use Rattle.bdb_sql.specs.Tied.{HoldsTable, IsReadyFile}
 use Rattle.bdb_sql.specs.Written.{HasTable}
 use Rattle.bdb_sql.proofs.RowLemmas.{rows_empty}
 use Rattle.bdb_sql.proofs.RemoveLemmas.{went, same_value}
@@ -34,8 +34,8 @@ holds_still old new same holds = record {
   shaped = subst (λ (d : Database). IsShaped Table (d.trees 0)) (sym same) holds.shaped;
 }
 
-no_rows : (rows : List Row) (t : Tables) → rows ≡ [] → t ≡ fin.empty → AreRowsOf (map entry rows) t
-no_rows rows t none empty = subst (λ l. AreRowsOf (map entry l) t) (sym none) (subst (AreRowsOf []) (sym empty) rows_empty)
+no_rows : (rows : List Row) (t : Tables) → rows ≡ [] → t ≡ fin.empty → AreAllRows (map entry rows) t
+no_rows rows t none empty = subst (λ l. AreAllRows (map entry l) t) (sym none) (subst (AreAllRows []) (sym empty) rows_empty)
 
 module _ (old new : State) where
   made_new : old.now.schema ≡ no_schema → (count : ℕ) → ExecutesInside 0 create_text [] old new (Ok count) → HasTable old new
@@ -67,14 +67,14 @@ module _ (old new : State) where
         table = holds_still old new same holds;
         rows = λ t stores. elim stores [
           | inl bare ↦ absurd (never_both (sym bare.0 ∙ holds.schema))
-          | inr kept ↦ subst (λ (d : Database). HasRows d.trees t) (sym same) kept.1
+          | inr kept ↦ subst (λ (d : Database). TreesHave d.trees t) (sym same) kept.1
         ];
         committed = ran.1.committed_is;
         mode = ran.1.mode;
       }
 
   -- inside a transaction the table is there afterwards, with the rows that the file had
-  pub makes_inside : (r : Result ℕ Error) → IsReady old → ExecutesInside 0 create_text [] old new r → OnOk r (HasTable old new)
+  pub makes_inside : (r : Result ℕ Error) → IsReadyFile old → ExecutesInside 0 create_text [] old new r → OnOk r (HasTable old new)
   makes_inside (Err e) ready ran = tt
   makes_inside (Ok count) (inl none) ran = made_new none count ran
   makes_inside (Ok count) (inr holds) ran = made_again holds count ran

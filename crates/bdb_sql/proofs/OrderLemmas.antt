@@ -18,9 +18,9 @@ use Rattle.sqlite.specs.State.{State, IsLive}
 use Rattle.bdb_keep.specs.Tables.{Tables}
 use Rattle.bdb_keep.specs.declared.keeper.KeepError.{KeepError}
 use Rattle.bdb_sql.specs.Kept.{IsBareOrKept, kept_table, kept_schema, no_schema}
-use Rattle.bdb_sql.specs.Rows.{Stores}
+use Rattle.bdb_sql.specs.Rows.{StoresTables}
 use Rattle.bdb_sql.specs.Stays.{StaysAs}
-use Rattle.bdb_sql.specs.Tied.{IsReady, IsTied, IsWhole}
+use Rattle.bdb_sql.specs.Tied.{IsReadyFile, IsTied, IsWhole}
 
 -- the rows of the one table stand by rising numbers
 pub shaped_table : (shape : ℕ → Shape) (reals : ℕ → ℕ) (trees : Trees) (schema : Schema) → schema ≡ kept_schema → IsOrdered shape trees → IsListed (trees catalog_tree) shape reals → IsSound schema trees → IsShaped Table (trees 0)
@@ -44,7 +44,7 @@ module _ {S : Type 0} (g : Ghosts S) (c : Held S)
   is_open (inl unbroken) = open_if _ _ shut unbroken
   is_open (inr it) = it.0
 
-  ready : IsWhole g c → IsDatabase (state g c).now → IsBareOrKept (state g c) → IsReady (state g c)
+  ready : IsWhole g c → IsDatabase (state g c).now → IsBareOrKept (state g c) → IsReadyFile (state g c)
   ready whole sound (inl bare) = inl bare
   ready (inl unbroken) sound (inr kept) = inr (record { schema = kept; sound = sound; shaped = shaped_table (g.view c.store).shape (g.view c.store).reals (g.view c.store).trees c.schema kept (ordered unbroken) (listed unbroken) sound })
   ready (inr it) sound (inr kept) = elim it.1 [ inl bare ↦ inl bare | inr shaped ↦ inr (record { schema = kept; sound = sound; shaped = shaped }) ]
@@ -71,7 +71,7 @@ module _ {S : Type 0} (g : Ghosts S) (c : Held S)
   -- where loading over it went well, it is tied to what was loaded
   module _ (settled : (db : Trees) → IsTrue (g.view c.store).is_open → g.recovers c.store db → db ≡ (g.view c.store).committed)
       (old : State) (live : IsLive old) (alone : old.in_transaction ≡ false) (same : IsTrue old.is_open → old.now ≡ old.committed) where
-    ties : (t : Tables) → IsWhole g c → IsBareOrKept old → Stores old.now t → StaysAs old (state g c) → IsTied (state g c) t
+    ties : (t : Tables) → IsWhole g c → IsBareOrKept old → StoresTables old.now t → StaysAs old (state g c) → IsTied (state g c) t
     ties t whole found stores stays =
         let stays_open = is_open whole in
         let was_open : IsTrue old.is_open = sym stays.open_is ∙ stays_open in
@@ -83,11 +83,11 @@ module _ {S : Type 0} (g : Ghosts S) (c : Held S)
           settled = settles;
           sound = sound;
           ready = ready whole sound (subst (λ (d : Database). (d.schema ≡ no_schema) ⊎ (d.schema ≡ kept_schema)) (sym stays.now_is) found);
-          rows = subst (λ d. Stores d t) (sym stays.now_is) stores;
+          rows = subst (λ d. StoresTables d t) (sym stays.now_is) stores;
           crash = λ db may. settled db stays_open may ∙ ap (λ (d : Database). d.trees) (sym settles);
         }
 
-    pub ties_if : {V : Type 0} (tables : V → Tables) (r : Result V KeepError) → OnOk r (IsWhole g c) → OnOk r (IsBareOrKept old) → IfOk r (λ v. Stores old.now (tables v)) → OnOk r (StaysAs old (state g c))
+    pub ties_if : {V : Type 0} (tables : V → Tables) (r : Result V KeepError) → OnOk r (IsWhole g c) → OnOk r (IsBareOrKept old) → IfOk r (λ v. StoresTables old.now (tables v)) → OnOk r (StaysAs old (state g c))
         → IfOk r (λ v. IsTied (state g c) (tables v))
     ties_if tables (Ok v) whole found stores stays = ties (tables v) whole found stores stays
     ties_if tables (Err e) whole found stores stays = tt

@@ -13,9 +13,9 @@ use Rattle.sqlite.specs.State.{State, ExecutesInside}
 use Rattle.bdb_keep.specs.Tables.{Tables, bytes_cmp}
 use Rattle.bdb_keep.proofs.Gets.{get_after_insert, get_after_remove, key_itself}
 use Rattle.bdb_keep.proofs.RowsLemmas.{same_place}
-use Rattle.bdb_sql.specs.Entries.{StandsFor, longest}
-use Rattle.bdb_sql.specs.Rows.{AreRowsOf, entry}
-use Rattle.bdb_sql.specs.Changes.{StandsAt, IsPut, IsGone, filed}
+use Rattle.bdb_sql.specs.Entries.{IsFiledRow, longest}
+use Rattle.bdb_sql.specs.Rows.{AreAllRows, entry}
+use Rattle.bdb_sql.specs.Changes.{IsRowAt, IsPut, IsRowGone, filed}
 use Rattle.bdb_sql.specs.Tied.{HoldsTable}
 use Rattle.bdb_sql.specs.Written.{SetsPlace}
 use Rattle.bdb_sql.proofs.TextLemmas.{put_text, remove_text}
@@ -23,35 +23,35 @@ use Rattle.bdb_sql.proofs.PutLemmas.{puts}
 use Rattle.bdb_sql.proofs.RemoveLemmas.{removes}
 
 -- a row that stands for a row of the tables is at its place, and at no other
-stands_at : (r : Row) (n : ℕ) (k c : List ℕ) → StandsFor (entry r) n k c → StandsAt n k r
+stands_at : (r : Row) (n : ℕ) (k c : List ℕ) → IsFiledRow (entry r) n k c → IsRowAt n k r
 stands_at r n k c s = (s.tab_is, s.key_is)
 
-one_place : (r : Row) (n tab : ℕ) (k key : List ℕ) → StandsAt n k r → StandsAt tab key r → n ∷ k ≡ tab ∷ key
+one_place : (r : Row) (n tab : ℕ) (k key : List ℕ) → IsRowAt n k r → IsRowAt tab key r → n ∷ k ≡ tab ∷ key
 one_place r n tab k key a b = let e = sym a.0 ∙ b.0 in let f = sym a.1 ∙ b.1 in cc
 
 -- the places that are set are told apart from the others
-other_place : (r : Row) (n tab : ℕ) (k key : List ℕ) → StandsAt n k r → ¬ StandsAt tab key r → eq_by_cmp bytes_cmp (n ∷ k) (tab ∷ key) ≡ false
+other_place : (r : Row) (n tab : ℕ) (k key : List ℕ) → IsRowAt n k r → ¬ IsRowAt tab key r → eq_by_cmp bytes_cmp (n ∷ k) (tab ∷ key) ≡ false
 other_place r n tab k key at apart = go (eq_by_cmp bytes_cmp (n ∷ k) (tab ∷ key)) refl
   where
     go : (b : Bool) → eq_by_cmp bytes_cmp (n ∷ k) (tab ∷ key) ≡ b → b ≡ false
-    go true e = let same = same_place (n ∷ k) (tab ∷ key) e in absurd (apart (subst (λ x. StandsAt x key r) (let m : n ≡ tab = cc in m) (subst (λ x. StandsAt n x r) (let m : k ≡ key = cc in m) at)))
+    go true e = let same = same_place (n ∷ k) (tab ∷ key) e in absurd (apart (subst (λ x. IsRowAt x key r) (let m : n ≡ tab = cc in m) (subst (λ x. IsRowAt n x r) (let m : k ≡ key = cc in m) at)))
     go false e = refl
 
-apart_from : (r : Row) (n tab : ℕ) (k key : List ℕ) → StandsAt n k r → eq_by_cmp bytes_cmp (n ∷ k) (tab ∷ key) ≡ false → ¬ StandsAt tab key r
+apart_from : (r : Row) (n tab : ℕ) (k key : List ℕ) → IsRowAt n k r → eq_by_cmp bytes_cmp (n ∷ k) (tab ∷ key) ≡ false → ¬ IsRowAt tab key r
 apart_from r n tab k key a other b = both_ways _ other (ap (λ p. eq_by_cmp bytes_cmp p (tab ∷ key)) (one_place r n tab k key a b) ∙ key_itself (tab ∷ key))
 
 module _ (tab : ℕ) (key : List ℕ) (old new : List Row) (t : Tables) where
-  module _ (content : List ℕ) (table : (1 ≤ tab) × (tab ≤ 15)) (sizes : (length key ≤ longest) × (length content ≤ longest)) (put : IsPut tab key content old new) (are : AreRowsOf (map entry old) t) where
+  module _ (content : List ℕ) (table : (1 ≤ tab) × (tab ≤ 15)) (sizes : (length key ≤ longest) × (length content ≤ longest)) (put : IsPut tab key content old new) (are : AreAllRows (map entry old) t) where
     abbrev after : Tables
     after = fin.insert t (tab ∷ key) content
 
     gets : (p : List ℕ) → fin.get after p ≡ cond (eq_by_cmp bytes_cmp p (tab ∷ key)) (Some content) (fin.get t p)
     gets p = get_after_insert t (tab ∷ key) content p
 
-    filed_stands : StandsFor (filed tab key content) tab key content
+    filed_stands : IsFiledRow (filed tab key content) tab key content
     filed_stands = record { tab_is = refl; key_is = refl; row_is = refl; table = table; sizes = sizes }
 
-    each_put : (r : Row) → Has (map entry new) r → (n : ℕ) × (k c : List ℕ) × StandsFor r n k c × (fin.get after (n ∷ k) ≡ Some c)
+    each_put : (r : Row) → Has (map entry new) r → (n : ℕ) × (k c : List ℕ) × IsFiledRow r n k c × (fin.get after (n ∷ k) ≡ Some c)
     each_put r h =
         let x = has_mapped entry new r h in
         elim (put.only x.0 x.1) [
@@ -59,7 +59,7 @@ module _ (tab : ℕ) (key : List ℕ) (old new : List Row) (t : Tables) where
             tab,
             key,
             content,
-            subst (λ y. StandsFor y tab key content) (sym (x.2 ∙ same)) filed_stands,
+            subst (λ y. IsFiledRow y tab key content) (sym (x.2 ∙ same)) filed_stands,
             gets (tab ∷ key) ∙ ap (λ b. cond b (Some content) (fin.get t (tab ∷ key))) (key_itself (tab ∷ key)),
           )
           | inr was ↦
@@ -67,15 +67,15 @@ module _ (tab : ℕ) (key : List ℕ) (old new : List Row) (t : Tables) where
                 w.0,
                 w.1,
                 w.2,
-                subst (λ y. StandsFor y w.0 w.1 w.2) (sym x.2) w.3,
+                subst (λ y. IsFiledRow y w.0 w.1 w.2) (sym x.2) w.3,
                 gets (w.0 ∷ w.1) ∙ ap (λ b. cond b (Some content) (fin.get t (w.0 ∷ w.1))) (other_place x.0 w.0 tab w.1 key (stands_at x.0 w.0 w.1 w.2 w.3) was.1) ∙ w.4,
               )
         ]
 
-    all_put : (n : ℕ) (k c : List ℕ) → fin.get after (n ∷ k) ≡ Some c → (r : Row) × Has (map entry new) r × StandsFor r n k c
+    all_put : (n : ℕ) (k c : List ℕ) → fin.get after (n ∷ k) ≡ Some c → (r : Row) × Has (map entry new) r × IsFiledRow r n k c
     all_put n k c some = go (eq_by_cmp bytes_cmp (n ∷ k) (tab ∷ key)) refl (sym (gets (n ∷ k)) ∙ some)
       where
-        go : (b : Bool) → eq_by_cmp bytes_cmp (n ∷ k) (tab ∷ key) ≡ b → cond b (Some content) (fin.get t (n ∷ k)) ≡ Some c → (r : Row) × Has (map entry new) r × StandsFor r n k c
+        go : (b : Bool) → eq_by_cmp bytes_cmp (n ∷ k) (tab ∷ key) ≡ b → cond b (Some content) (fin.get t (n ∷ k)) ≡ Some c → (r : Row) × Has (map entry new) r × IsFiledRow r n k c
         go true e s =
             let same = same_place (n ∷ k) (tab ∷ key) e in
             let one : tab ≡ n = cc in
@@ -84,25 +84,25 @@ module _ (tab : ℕ) (key : List ℕ) (old new : List Row) (t : Tables) where
             let there : Has (map entry new) (filed tab key content) = subst (Has (map entry new)) put.there.2 (mapped_has entry new put.there.0 put.there.1) in (
               filed tab key content,
               there,
-              subst (λ x. StandsFor (filed tab key content) x k c) one (subst (λ x. StandsFor (filed tab key content) tab x c) two (subst (λ x. StandsFor (filed tab key content) tab key x) three filed_stands)),
+              subst (λ x. IsFiledRow (filed tab key content) x k c) one (subst (λ x. IsFiledRow (filed tab key content) tab x c) two (subst (λ x. IsFiledRow (filed tab key content) tab key x) three filed_stands)),
             )
         go false e s =
             let w = are.all n k c s in
             let x = has_mapped entry old w.0 w.1 in
-            let stands : StandsFor (entry x.0) n k c = subst (λ y. StandsFor y n k c) x.2 w.2 in
+            let stands : IsFiledRow (entry x.0) n k c = subst (λ y. IsFiledRow y n k c) x.2 w.2 in
             (entry x.0, mapped_has entry new x.0 (put.kept x.0 x.1 (apart_from x.0 n tab k key (stands_at x.0 n k c stands) e)), stands)
 
-    pub put_rows : AreRowsOf (map entry new) after
+    pub put_rows : AreAllRows (map entry new) after
     put_rows = record { each = each_put; all = all_put }
 
-  module _ (gone : IsGone tab key old new) (are : AreRowsOf (map entry old) t) where
+  module _ (gone : IsRowGone tab key old new) (are : AreAllRows (map entry old) t) where
     abbrev rest : Tables
     rest = fin.remove t (tab ∷ key)
 
     gets_rest : (p : List ℕ) → fin.get rest p ≡ cond (eq_by_cmp bytes_cmp p (tab ∷ key)) None (fin.get t p)
     gets_rest p = get_after_remove t (tab ∷ key) p
 
-    each_gone : (r : Row) → Has (map entry new) r → (n : ℕ) × (k c : List ℕ) × StandsFor r n k c × (fin.get rest (n ∷ k) ≡ Some c)
+    each_gone : (r : Row) → Has (map entry new) r → (n : ℕ) × (k c : List ℕ) × IsFiledRow r n k c × (fin.get rest (n ∷ k) ≡ Some c)
     each_gone r h =
         let x = has_mapped entry new r h in
         let was = gone.only x.0 x.1 in
@@ -110,22 +110,22 @@ module _ (tab : ℕ) (key : List ℕ) (old new : List Row) (t : Tables) where
           w.0,
           w.1,
           w.2,
-          subst (λ y. StandsFor y w.0 w.1 w.2) (sym x.2) w.3,
+          subst (λ y. IsFiledRow y w.0 w.1 w.2) (sym x.2) w.3,
           gets_rest (w.0 ∷ w.1) ∙ ap (λ b. cond b None (fin.get t (w.0 ∷ w.1))) (other_place x.0 w.0 tab w.1 key (stands_at x.0 w.0 w.1 w.2 w.3) was.1) ∙ w.4,
         )
 
-    all_gone : (n : ℕ) (k c : List ℕ) → fin.get rest (n ∷ k) ≡ Some c → (r : Row) × Has (map entry new) r × StandsFor r n k c
+    all_gone : (n : ℕ) (k c : List ℕ) → fin.get rest (n ∷ k) ≡ Some c → (r : Row) × Has (map entry new) r × IsFiledRow r n k c
     all_gone n k c some = go (eq_by_cmp bytes_cmp (n ∷ k) (tab ∷ key)) refl (sym (gets_rest (n ∷ k)) ∙ some)
       where
-        go : (b : Bool) → eq_by_cmp bytes_cmp (n ∷ k) (tab ∷ key) ≡ b → cond b None (fin.get t (n ∷ k)) ≡ Some c → (r : Row) × Has (map entry new) r × StandsFor r n k c
+        go : (b : Bool) → eq_by_cmp bytes_cmp (n ∷ k) (tab ∷ key) ≡ b → cond b None (fin.get t (n ∷ k)) ≡ Some c → (r : Row) × Has (map entry new) r × IsFiledRow r n k c
         go true e s = absurd (true≢false (sym (ap is_some s)))
         go false e s =
             let w = are.all n k c s in
             let x = has_mapped entry old w.0 w.1 in
-            let stands : StandsFor (entry x.0) n k c = subst (λ y. StandsFor y n k c) x.2 w.2 in
+            let stands : IsFiledRow (entry x.0) n k c = subst (λ y. IsFiledRow y n k c) x.2 w.2 in
             (entry x.0, mapped_has entry new x.0 (gone.kept x.0 x.1 (apart_from x.0 n tab k key (stands_at x.0 n k c stands) e)), stands)
 
-    pub gone_rows : AreRowsOf (map entry new) rest
+    pub gone_rows : AreAllRows (map entry new) rest
     gone_rows = record { each = each_gone; all = all_gone }
 
 -- inside a transaction the text that puts a row sets its place

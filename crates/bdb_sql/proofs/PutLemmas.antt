@@ -40,7 +40,7 @@ use Rattle.sqlite.specs.State.{State, mode_of, Executes}
 use Rattle.sqlite.proofs.Callers.{statement_of, runs_as, one_step}
 use Rattle.bdb_sql.specs.Kept.{kept_table, kept_schema}
 use Rattle.bdb_sql.specs.Rows.{entry}
-use Rattle.bdb_sql.specs.Changes.{StandsAt, IsPut, filed}
+use Rattle.bdb_sql.specs.Changes.{IsRowAt, IsPut, filed}
 use Rattle.bdb_sql.specs.Tied.{HoldsTable}
 use Rattle.bdb_sql.proofs.TextLemmas.{put_text, put_terms, put_clauses, put_clause, change_query, put_is, put_plain}
 use Rattle.bdb_sql.proofs.FindLemmas.{AreFound, found_rows, left_lacks, parted, without_shaped, put_shaped}
@@ -92,7 +92,7 @@ module _ (old new : State) (tab : ℕ) (key content : List ℕ) (holds : HoldsTa
   Put one = IsPut tab key content rows (one.trees 0) × IsShaped Table (one.trees 0)
 
   -- a row that was not there
-  new_put : (id : ℤ) (one : Written) → ((r : Row) → Has rows r → ¬ StandsAt tab key r) → Puts task (new_row id) old.now.trees (Ok one) → Put one
+  new_put : (id : ℤ) (one : Written) → ((r : Row) → Has rows r → ¬ IsRowAt tab key r) → Puts task (new_row id) old.now.trees (Ok one) → Put one
   new_put id one none puts =
       let db = old.now.trees in
       let edited = went puts in
@@ -113,7 +113,7 @@ module _ (old new : State) (tab : ℕ) (key content : List ℕ) (holds : HoldsTa
         subst (IsShaped Table) (sym is) (IsShaped-put_row (new_row id) rows refl holds.shaped),
       )
 
-  module _ (r0 : Row) (there : Has rows r0) (at : StandsAt tab key r0) where
+  module _ (r0 : Row) (there : Has rows r0) (at : IsRowAt tab key r0) where
     it : IsStored r0
     it = stored old holds r0 there
 
@@ -175,7 +175,7 @@ module _ (old new : State) (tab : ℕ) (key content : List ℕ) (holds : HoldsTa
             ];
             kept = λ r h apart. elim (parted ids rows r holds.shaped.0 h) [
               | inl l ↦ subst (λ x. Has x r) (sym is) (put_all_keeps edit.news left r applies.fresh l)
-              | inr taken ↦ absurd (apart (subst (StandsAt tab key) (sym (taken.2 ∙ ap (row_at rows) (number taken.0 taken.1) ∙ row_at_is rows it.id r0 holds.shaped.0 there own)) at))
+              | inr taken ↦ absurd (apart (subst (IsRowAt tab key) (sym (taken.2 ∙ ap (row_at rows) (number taken.0 taken.1) ∙ row_at_is rows it.id r0 holds.shaped.0 there own)) at))
             ];
           },
           subst (IsShaped Table) (sym is) (put_shaped edit.news left (λ n h. test_has (λ r. is_int (rowid r)) edit.news n applies.keyed h) (without_shaped ids rows holds.shaped)),
@@ -186,10 +186,10 @@ module _ (old new : State) (tab : ℕ) (key content : List ℕ) (holds : HoldsTa
   unfolding first_key
   conflict_is id r = refl
 
-  meets : (id : ℤ) (r : Row) → StandsAt tab key r → conflicts (Some (1 ∷ 2 ∷ [])) kept_schema.indexes kept_table (new_row id) r ≡ true
+  meets : (id : ℤ) (r : Row) → IsRowAt tab key r → conflicts (Some (1 ∷ 2 ∷ [])) kept_schema.indexes kept_table (new_row id) r ≡ true
   meets id r at = let e = key_same r tab key at in conflict_is id r ∙ ap (λ b. b || false) (both_true _ _ e.0 e.1)
 
-  met : (id : ℤ) (r : Row) → Has rows r → conflicts (Some (1 ∷ 2 ∷ [])) kept_schema.indexes kept_table (new_row id) r ≡ true → StandsAt tab key r
+  met : (id : ℤ) (r : Row) → Has rows r → conflicts (Some (1 ∷ 2 ∷ [])) kept_schema.indexes kept_table (new_row id) r ≡ true → IsRowAt tab key r
   met id r there h =
       let b = equal Binary (column r 2) (Blob key) in
       let p = and_parts (equal Binary (column r 1) (Int (pos tab))) (b && true) (or_first _ (sym (conflict_is id r) ∙ h)) in

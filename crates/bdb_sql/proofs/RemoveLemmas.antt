@@ -24,7 +24,7 @@ use Rattle.sqlite.specs.Listing.{understood}
 use Rattle.sqlite.specs.State.{State, mode_of, Executes}
 use Rattle.sqlite.proofs.Callers.{statement_of, runs_as, one_step}
 use Rattle.bdb_sql.specs.Kept.{kept_table, kept_schema}
-use Rattle.bdb_sql.specs.Changes.{StandsAt, IsGone}
+use Rattle.bdb_sql.specs.Changes.{IsRowAt, IsRowGone}
 use Rattle.bdb_sql.specs.Tied.{HoldsTable}
 use Rattle.bdb_sql.proofs.TextLemmas.{remove_text, remove_query, place_terms, remove_is, remove_plain}
 use Rattle.bdb_sql.proofs.FindLemmas.{AreFound, pass, found_rows, left_lacks, parted, without_shaped}
@@ -48,16 +48,16 @@ module _ (old new : State) (tab : ℕ) (key : List ℕ) (holds : HoldsTable old)
   abbrev Finds : List Row → Type 0
   Finds found = AreFound place_terms (col 1 0 ∷ []) rows params found
 
-  passes : (r : Row) → StandsAt tab key r → pass place_terms params r ≡ true
+  passes : (r : Row) → IsRowAt tab key r → pass place_terms params r ≡ true
   passes r at = let e = key_same r tab key at in both_true _ _ e.0 e.1
 
-  stands : (r : Row) → Has rows r → pass place_terms params r ≡ true → StandsAt tab key r
+  stands : (r : Row) → Has rows r → pass place_terms params r ≡ true → IsRowAt tab key r
   stands r there passed =
       let p = and_parts _ _ passed in
       same_key r tab key (stored old holds r there) p.0 (and_parts _ _ p.1).0
 
   -- what is left where the rows that were found are taken out
-  pub gone_from : (found : List Row) → Finds found → IsGone tab key rows (without_all rows (ids_of found))
+  pub gone_from : (found : List Row) → Finds found → IsRowGone tab key rows (without_all rows (ids_of found))
   gone_from found answer =
       let ids = ids_of found in
       record {
@@ -75,11 +75,11 @@ module _ (old new : State) (tab : ℕ) (key : List ℕ) (holds : HoldsTable old)
               let q = answer.sound x.0 x.1 in
               let id : taken.0 ≡ id_in (rowid q.0) = x.2 ∙ ap (λ y. id_in (rowid y)) q.3 in
               let is = row_at_is rows taken.0 q.0 holds.shaped.0 q.1 (subst (λ i. has_rowid i q.0 ≡ true) (sym id) (own_number q.0 (stored old holds q.0 q.1))) in
-              apart (subst (StandsAt tab key) (sym (taken.2 ∙ is)) (stands q.0 q.1 q.2)))
+              apart (subst (IsRowAt tab key) (sym (taken.2 ∙ is)) (stands q.0 q.1 q.2)))
         ];
       }
 
-  pub removes : (count : ℕ) → Executes remove_text params old new (Ok count) → IsGone tab key rows (new.now.trees 0) × HoldsTable new
+  pub removes : (count : ℕ) → Executes remove_text params old new (Ok count) → IsRowGone tab key rows (new.now.trees 0) × HoldsTable new
   removes count ran =
       let db = old.now.trees in
       let command = Delete 0 (record { lets = []; body = remove_query }) in
@@ -93,6 +93,6 @@ module _ (old new : State) (tab : ℕ) (key : List ℕ) (holds : HoldsTable old)
       let applies = one_step kept_schema _ db edited.0 (edit_of db kept_table (ids_of found.0) Given 0 []) refl edited.1 in
       let is : new.now.trees 0 ≡ without_all rows (ids_of found.0) =
       ap (λ (d : Database). d.trees 0) now ∙ ap (λ (it : Written). it.trees 0) (same_value edited.2) ∙ applies.rows in (
-        subst (IsGone tab key rows) (sym is) (gone_from found.0 answer),
+        subst (IsRowGone tab key rows) (sym is) (gone_from found.0 answer),
         record { schema = ap (λ (d : Database). d.schema) now; sound = w.sound; shaped = subst (IsShaped Table) (sym is) (without_shaped (ids_of found.0) rows holds.shaped) },
       )

@@ -14,8 +14,8 @@ use Rattle.sqlite_rules.proofs.ProbeLemmas.{has_mapped, mapped_has}
 use Rattle.bdb_keep.specs.Tables.{Tables, bytes_cmp}
 use Rattle.bdb_keep.proofs.Gets.{get_empty, get_after_insert}
 use Rattle.bdb_keep.proofs.RowsLemmas.{same_place}
-use Rattle.bdb_sql.specs.Entries.{StandsFor, AddsAfter}
-use Rattle.bdb_sql.specs.Rows.{AreRowsOf, entry}
+use Rattle.bdb_sql.specs.Entries.{IsFiledRow, AddsAfter}
+use Rattle.bdb_sql.specs.Rows.{AreAllRows, entry}
 use Rattle.bdb_sql.proofs.LoadLemmas.{AreShown}
 
 -- no row comes after this place
@@ -29,7 +29,7 @@ none_there q x none some = true≢false (sym some ∙ ap is_some none)
 pub up_to_empty : (place : List ℕ) → IsUpTo place fin.empty
 up_to_empty place p some = absurd (none_there p _ (get_empty p) some)
 
-pub rows_empty : AreRowsOf [] fin.empty
+pub rows_empty : AreAllRows [] fin.empty
 rows_empty = record {
   each = λ r h. absurd h;
   all = λ tab key content some. absurd (none_there (tab ∷ key) _ (get_empty (tab ∷ key)) (ap is_some some));
@@ -83,11 +83,11 @@ module _ (row : Row) (before place : List ℕ) (old new : Tables) (adds : AddsAf
       go false e s = le_less p before place (bytes_cmp p before) refl (up p s) adds.after
 
   -- the rows so far, and it, are those of the tables with it
-  pub one_more : (rows : List Row) → AreRowsOf rows old → AreRowsOf (rows ++ row ∷ []) new
+  pub one_more : (rows : List Row) → AreAllRows rows old → AreAllRows (rows ++ row ∷ []) new
   one_more rows was = record {
     each = λ r h. elim (has_either rows (row ∷ []) r h) [
       | inl there ↦ let w = was.each r there in (w.0, w.1, w.2, w.3, kept (w.0 ∷ w.1) w.2 w.4)
-      | inr (inl same) ↦ (adds.tab, adds.key, adds.content, subst (λ x. StandsFor x adds.tab adds.key adds.content) (sym same) adds.stands, here)
+      | inr (inl same) ↦ (adds.tab, adds.key, adds.content, subst (λ x. IsFiledRow x adds.tab adds.key adds.content) (sym same) adds.stands, here)
       | inr (inr none) ↦ absurd none
     ];
     all = λ tab key content some. go tab key content (eq_by_cmp bytes_cmp (tab ∷ key) place) refl (sym (gets (tab ∷ key)) ∙ some);
@@ -108,10 +108,10 @@ module _ (row : Row) (before place : List ℕ) (old new : Tables) (adds : AddsAf
           other false e = some
 
       go : (tab : ℕ) (key content : List ℕ) (b : Bool) → eq_by_cmp bytes_cmp (tab ∷ key) place ≡ b → cond b (Some adds.content) (fin.get old (tab ∷ key)) ≡ Some content
-          → (r : Row) × Has (rows ++ row ∷ []) r × StandsFor r tab key content
+          → (r : Row) × Has (rows ++ row ∷ []) r × IsFiledRow r tab key content
       go tab key content true e same = (row, has_right rows (row ∷ []) row (inl refl), stood tab key content (same_place (tab ∷ key) place e ∙ adds.place_is) same)
         where
-          stood : (tab : ℕ) (key content : List ℕ) → tab ∷ key ≡ adds.tab ∷ adds.key → Some adds.content ≡ Some content → StandsFor row tab key content
+          stood : (tab : ℕ) (key content : List ℕ) → tab ∷ key ≡ adds.tab ∷ adds.key → Some adds.content ≡ Some content → IsFiledRow row tab key content
           stood tab key content at is =
               let one : adds.tab ≡ tab = cc in
               let two : adds.key ≡ key = cc in
@@ -120,7 +120,7 @@ module _ (row : Row) (before place : List ℕ) (old new : Tables) (adds : AddsAf
       go tab key content false e some = let w = was.all tab key content some in (w.0, has_left rows (row ∷ []) w.0 w.1, w.2)
 
 -- what is shown of stored rows and is of the tables stands for the stored rows too
-pub shown_rows : (stored rows : List Row) (t : Tables) → AreShown stored rows → AreRowsOf rows t → AreRowsOf (map entry stored) t
+pub shown_rows : (stored rows : List Row) (t : Tables) → AreShown stored rows → AreAllRows rows t → AreAllRows (map entry stored) t
 shown_rows stored rows t shown are = record {
   each = λ r h. are.each r (there r (has_mapped entry stored r h));
   all = λ tab key content some. let w = are.all tab key content some in let s = shown.sound w.0 w.1 in (w.0, subst (Has (map entry stored)) (sym s.2) (mapped_has entry stored s.0 s.1), w.2);

@@ -11,7 +11,7 @@ abbrev pub longest : ℕ
 longest = 2 ^ 20
 
 -- a row of the file stands for this row of a table 1 to 15
-pub record StandsFor (filed : Row) (tab : ℕ) (key row : List ℕ) : Type 0 where
+pub record IsFiledRow (filed : Row) (tab : ℕ) (key row : List ℕ) : Type 0 where
   pub tab_is : column filed 0 ≡ Int (pos tab)
   pub key_is : column filed 1 ≡ Blob key
   pub row_is : column filed 2 ≡ Blob row
@@ -23,7 +23,7 @@ pub record AddsAfter (filed : Row) (before place : List ℕ) (old new : Tables) 
   pub tab : ℕ
   pub key : List ℕ
   pub content : List ℕ
-  pub stands : StandsFor filed tab key content
+  pub stands : IsFiledRow filed tab key content
   pub place_is : place ≡ tab ∷ key
   pub after : IsTrue (is_lt (bytes_cmp before place))
   pub added : new ≡ map.insert old place content

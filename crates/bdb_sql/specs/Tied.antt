@@ -11,7 +11,7 @@ use Rattle.sqlite.specs.State.{State, HasCleanDisk}
 use Rattle.bdb_keep.specs.Tables.{Tables}
 use Rattle.bdb_sql.specs.Filed.{Filed, works}
 use Rattle.bdb_sql.specs.Kept.{kept_schema, no_schema}
-use Rattle.bdb_sql.specs.Rows.{Stores}
+use Rattle.bdb_sql.specs.Rows.{StoresTables}
 
 -- the one table is there, its rows obey its rules and stand by rising numbers
 pub record HoldsTable (s : State) : Type 0 where
@@ -20,8 +20,8 @@ pub record HoldsTable (s : State) : Type 0 where
   pub shaped : IsShaped Table (s.now.trees 0)
 
 -- there is nothing at all, or the one table
-abbrev pub IsReady : State → Type 0
-IsReady s = (s.now.schema ≡ no_schema) ⊎ HoldsTable s
+abbrev pub IsReadyFile : State → Type 0
+IsReadyFile s = (s.now.schema ≡ no_schema) ⊎ HoldsTable s
 
 -- through this connection the file has exactly these rows, and a crash at this moment leaves them and no others
 pub record IsTied (s : State) (t : Tables) : Type 0 where
@@ -29,13 +29,13 @@ pub record IsTied (s : State) (t : Tables) : Type 0 where
   pub autocommit : s.in_transaction ≡ false
   pub settled : s.now ≡ s.committed
   pub sound : IsDatabase s.now
-  pub ready : IsReady s
-  pub rows : Stores s.now t
+  pub ready : IsReadyFile s
+  pub rows : StoresTables s.now t
   pub crash : (db : Trees) → s.may_leave db → db ≡ s.now.trees
 
 -- what a crash left is a database with exactly these rows
 abbrev pub LeavesRows : Trees → Tables → Type 0
-LeavesRows db t = (schema : Schema) × IsDatabase (record { schema = schema; trees = db }) × Stores (record { schema = schema; trees = db }) t
+LeavesRows db t = (schema : Schema) × IsDatabase (record { schema = schema; trees = db }) × StoresTables (record { schema = schema; trees = db }) t
 
 -- a crash at this moment leaves the rows from before, or those after
 abbrev pub LeavesEither : State → Tables → Tables → Type 0

@@ -2,7 +2,7 @@
 ghost use Rattle.std.specs.Prelude.{◌≡◌, true, IfSome, IsSome};
 ghost use Rattle.bdb_sql.specs.Filed.{Begins, works};
 ghost use Rattle.bdb_sql.specs.Kept.{IsBareOrKept};
-ghost use Rattle.bdb_sql.specs.Rows.{Stores};
+ghost use Rattle.bdb_sql.specs.Rows.{StoresTables};
 ghost use Rattle.bdb_sql.specs.Tied.{MatchesFile};
 ghost use Rattle.sqlite.specs.Files.{file_state, over_files};
 ghost use Rattle.sqlite.specs.State.{HasCleanDisk, Opens};
@@ -28,7 +28,7 @@ impl<S: Start> SqlKeeper<FileStore<FileFrom<S>>> {
         ensures found { works result ≡ true → IfSome result.conn (λ c. HasCleanDisk (file_state c)
             → IsBareOrKept (file_state c)) }
         ensures rows { works result ≡ true → IfSome result.conn (λ c. HasCleanDisk (file_state c)
-            → Stores (file_state c).now result.seen.kept) }
+            → StoresTables (file_state c).now result.seen.kept) }
         ensures tied { works result ≡ true → MatchesFile over_files result }
     {
         match look_at(rt, path) {
@@ -48,7 +48,7 @@ impl<S: Start> SqlKeeper<FileStore<FileFrom<S>>> {
         ensures found { works result ≡ true → IfSome result.conn (λ c. HasCleanDisk (file_state c)
             → IsBareOrKept (file_state c)) }
         ensures rows { works result ≡ true → IfSome result.conn (λ c. HasCleanDisk (file_state c)
-            → Stores (file_state c).now result.seen.kept) }
+            → StoresTables (file_state c).now result.seen.kept) }
         ensures tied { works result ≡ true → MatchesFile over_files result }
     {
         match look_at(rt, path) {
@@ -67,7 +67,7 @@ impl<S: Start> SqlKeeper<FileStore<FileFrom<S>>> {
         ensures found { works result ≡ true → IfSome result.conn (λ c. HasCleanDisk (file_state c)
             → IsBareOrKept (file_state c)) }
         ensures rows { works result ≡ true → IfSome result.conn (λ c. HasCleanDisk (file_state c)
-            → Stores (file_state c).now result.seen.kept) }
+            → StoresTables (file_state c).now result.seen.kept) }
         ensures tied { works result ≡ true → MatchesFile over_files result }
     {
         match Connection::open_from(rt, path, false, start) {
@@ -93,7 +93,7 @@ impl SqlKeeper<FileStore<File>> {
         ensures found { works result ≡ true → IfSome result.conn (λ c. HasCleanDisk (file_state c)
             → IsBareOrKept (file_state c)) }
         ensures rows { works result ≡ true → IfSome result.conn (λ c. HasCleanDisk (file_state c)
-            → Stores (file_state c).now result.seen.kept) }
+            → StoresTables (file_state c).now result.seen.kept) }
         ensures tied { works result ≡ true → MatchesFile over_files result }
     {
         SqlKeeper::from_file_holding(alloc, rt, path, Unknown)
@@ -108,7 +108,7 @@ impl SqlKeeper<FileStore<File>> {
         ensures found { works result ≡ true → IfSome result.conn (λ c. HasCleanDisk (file_state c)
             → IsBareOrKept (file_state c)) }
         ensures rows { works result ≡ true → IfSome result.conn (λ c. HasCleanDisk (file_state c)
-            → Stores (file_state c).now result.seen.kept) }
+            → StoresTables (file_state c).now result.seen.kept) }
         ensures tied { works result ≡ true → MatchesFile over_files result }
     {
         SqlKeeper::from_present_file_holding(alloc, rt, path, Unknown)

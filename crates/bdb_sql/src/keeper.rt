@@ -8,7 +8,7 @@ ghost use Rattle.bdb_keep.specs.Spans.{AreRowsUnder, with_rows, without_rows};
 ghost use Rattle.bdb_keep.specs.Tables.{IsLeastFrom, LieInTables, NoneFrom};
 ghost use Rattle.bdb_sql.specs.Filed.{works, Answers, Commits, Begins};
 ghost use Rattle.bdb_sql.specs.Kept.{IsBareOrKept};
-ghost use Rattle.bdb_sql.specs.Rows.{Stores};
+ghost use Rattle.bdb_sql.specs.Rows.{StoresTables};
 ghost use Rattle.bdb_sql.specs.Stays.{StaysAs};
 ghost use Rattle.bdb_sql.specs.Tied.{MatchesFile, MayStore, StandsWhole, StoresRows};
 ghost use Rattle.sqlite.specs.State.{HasCleanDisk, Survives};
@@ -63,7 +63,7 @@ impl<S: Alter> SqlKeeper<S> {
         ensures conn { IsSome result.conn }
         ensures found { works result ≡ true → IsBareOrKept (state S.Store conn) }
         ensures rows { works result ≡ true → IfSome result.conn (λ c. HasCleanDisk (state S.Store c)
-            → Stores (state S.Store conn).now result.seen.kept) }
+            → StoresTables (state S.Store conn).now result.seen.kept) }
         ensures same { works result ≡ true → IfSome result.conn (λ c. HasCleanDisk (state S.Store c)
             → StaysAs (state S.Store conn) (state S.Store c)) }
         ensures found_still { works result ≡ true
@@ -71,7 +71,7 @@ impl<S: Alter> SqlKeeper<S> {
             → IsBareOrKept (state S.Store c)) }
         ensures rows_still { works result ≡ true
             → IfSome result.conn (λ c. HasCleanDisk (state S.Store c)
-            → Stores (state S.Store c).now result.seen.kept) }
+            → StoresTables (state S.Store c).now result.seen.kept) }
         ensures survives { IfSome result.conn (λ c. Survives (state S.Store conn) (state S.Store c)
             (λ _. ⊥)) }
         ensures tied { works result ≡ true → StandsWhole S.Store result.conn

@@ -4,9 +4,9 @@ ghost use Rattle.std.specs.Ordering.{is_lt};
 ghost use Rattle.sqlite.specs.State.{HasCleanDisk, IsUnchanged, Survives};
 ghost use Rattle.sqlite.specs.Held.{state};
 ghost use Rattle.bdb_keep.specs.Tables.{LieInTables, bytes_cmp};
-ghost use Rattle.bdb_sql.specs.Entries.{StandsFor, AddsAfter};
+ghost use Rattle.bdb_sql.specs.Entries.{IsFiledRow, AddsAfter};
 ghost use Rattle.bdb_sql.specs.Kept.{IsBareOrKept, kept_schema, no_schema};
-ghost use Rattle.bdb_sql.specs.Rows.{AreRowsOf, Stores, entry};
+ghost use Rattle.bdb_sql.specs.Rows.{AreAllRows, StoresTables, entry};
 ghost use Rattle.bdb_sql.specs.Stays.{StaysAs};
 ghost use Rattle.bdb_sql.specs.Tied.{IsTied, IsWhole};
 
@@ -32,7 +32,7 @@ pub fn load<S: Alter>(alloc: Global, conn: &mut Connection<S>) -> Result<Store, 
     ensures fits { IfOk result (λ store. LieInTables store.kept) }
     ensures found { OnOk result (IsBareOrKept (state S.Store conn.old)) }
     ensures rows { HasCleanDisk (state S.Store conn.new)
-        → IfOk result (λ store. Stores (state S.Store conn.old).now store.kept) }
+        → IfOk result (λ store. StoresTables (state S.Store conn.old).now store.kept) }
     ensures same { HasCleanDisk (state S.Store conn.new)
         → OnOk result (StaysAs (state S.Store conn.old) (state S.Store conn.new)) }
     ensures survives { Survives (state S.Store conn.old) (state S.Store conn.new) (λ _. ⊥) }
@@ -63,7 +63,7 @@ fn load_found<S: Alter>(
     ensures fits { IfOk result (λ store. LieInTables store.kept) }
     ensures found { OnOk result (IsBareOrKept (state S.Store conn.old)) }
     ensures rows { HasCleanDisk (state S.Store conn.new)
-        → IfOk result (λ store. Stores (state S.Store conn.old).now store.kept) }
+        → IfOk result (λ store. StoresTables (state S.Store conn.old).now store.kept) }
     ensures same { HasCleanDisk (state S.Store conn.new)
         → OnOk result (StaysAs (state S.Store conn.old) (state S.Store conn.new)) }
     ensures survives { Survives (state S.Store conn.old) (state S.Store conn.new) (λ _. ⊥) }
@@ -84,7 +84,7 @@ fn read_rows<S: Alter>(alloc: Global, conn: &mut Connection<S>) -> Result<Store,
     ensures settled { IfOk result (λ store. store.kept ≡ store.last) }
     ensures fits { IfOk result (λ store. LieInTables store.kept) }
     ensures rows { HasCleanDisk (state S.Store conn.new)
-        → IfOk result (λ store. AreRowsOf (map entry ((state S.Store conn.old).now.trees 0))
+        → IfOk result (λ store. AreAllRows (map entry ((state S.Store conn.old).now.trees 0))
         store.kept) }
     ensures same { HasCleanDisk (state S.Store conn.new)
         → OnOk result (IsUnchanged (state S.Store conn.old) (state S.Store conn.new)) }
@@ -140,9 +140,9 @@ fn comes_after(place: &[u8], tab: u8, key: &[u8]) -> bool
 
 /// What a row of the file stands for: a table, a key and a row; none where it fits no table 1 to 15, or is too long.
 fn entry_of(row: &Row) -> Option<(u8, &[u8], &[u8])>
-    ensures some { IfSome result (λ entry. StandsFor row.now entry.0 entry.1.now entry.2.now) }
+    ensures some { IfSome result (λ entry. IsFiledRow row.now entry.0 entry.1.now entry.2.now) }
     ensures none { IfNone result ((tab : ℕ) (key content : List ℕ)
-        → StandsFor row.now tab key content → ⊥) }
+        → IsFiledRow row.now tab key content → ⊥) }
 {
     let (Ok(tab), Ok(key), Ok(content)) = (row.get_ref(0), row.get_ref(1), row.get_ref(2)) else {
         return None;

@@ -3,8 +3,8 @@ ghost use Rattle.std.specs.Prelude.{◌≡◌, ◌∷◌, ◌≤◌, None, Some,
 ghost use Rattle.std.specs.Option.{option_map};
 ghost use Rattle.sqlite.specs.State.{HasCleanDisk};
 ghost use Rattle.sqlite.specs.Held.{state};
-ghost use Rattle.bdb_memory.specs.Held.{written};
-ghost use Rattle.bdb_sql.specs.Tied.{HoldsTable, IsReady, IsTied, LeavesEither, WhereTied};
+ghost use Rattle.bdb_memory.specs.StoreContents.{written};
+ghost use Rattle.bdb_sql.specs.Tied.{HoldsTable, IsReadyFile, IsTied, LeavesEither, WhereTied};
 ghost use Rattle.bdb_sql.specs.Written.{CommitsNothing, HasTable, Inside, SetsPlace, SetsPlaces, Turns};
 
 use crate::kept::{CREATE, LONGEST, PUT, REMOVE};
@@ -63,7 +63,7 @@ fn write_all<S: Alter>(
 ) -> Result<(), Error>
     ensures same_reference { transaction.new.conn.ghost_name ≡ transaction.old.conn.ghost_name }
     ensures turns { Inside S.Store transaction.old.conn.now transaction.new.conn.now
-        (λ old new. IsReady old → OnOk result (Turns store.now.last store.now.kept old new)) }
+        (λ old new. IsReadyFile old → OnOk result (Turns store.now.last store.now.kept old new)) }
     ensures survives { CommitsNothing S.Store transaction.old.conn.now transaction.new.conn.now }
 {
     make_table(transaction)?;
@@ -118,7 +118,7 @@ fn write_row<S: Alter>(
 fn make_table<S: Alter>(transaction: &mut Transaction<'_, S>) -> Result<usize, Error>
     ensures same_reference { transaction.new.conn.ghost_name ≡ transaction.old.conn.ghost_name }
     ensures table { Inside S.Store transaction.old.conn.now transaction.new.conn.now
-        (λ old new. IsReady old → OnOk result (HasTable old new)) }
+        (λ old new. IsReadyFile old → OnOk result (HasTable old new)) }
     ensures survives { CommitsNothing S.Store transaction.old.conn.now transaction.new.conn.now }
 {
     transaction.execute(CREATE, &[])

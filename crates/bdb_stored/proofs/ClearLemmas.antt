@@ -11,7 +11,7 @@ use Rattle.bdb_keep.specs.Tables.{LieInTables, NoneFrom, Tables, bytes_cmp}
 use Rattle.bdb_keep.proofs.RowsLemmas.{same_place}
 use Rattle.bdb_tables.specs.Stored.{SameBut}
 use Rattle.bdb_update.specs.StoredLaws.{HaveNoRows}
-use Rattle.bdb_stored.specs.Writing.{AreCleared, IsCleared, is_before}
+use Rattle.bdb_stored.specs.Writing.{AreCleared, IsCleared, table_is_before}
 
 -- ---- one table
 
@@ -53,22 +53,22 @@ cleared_more t u v tab next le is a c = record {
   others = λ n k out. c.others n k (other n out) ∙ a.others n k (less n out);
 }
   where
-    earlier : (n : ℕ) → is_before next n ≡ true → nat_eq tab n ≡ false → is_before tab n ≡ true
+    earlier : (n : ℕ) → table_is_before next n ≡ true → nat_eq tab n ≡ false → table_is_before tab n ≡ true
     earlier n e s = grind (arith, nat_tests)
 
-    other : (n : ℕ) → is_before next n ≡ false → nat_eq tab n ≡ false
+    other : (n : ℕ) → table_is_before next n ≡ false → nat_eq tab n ≡ false
     other n out = grind (arith, nat_tests)
 
-    less : (n : ℕ) → is_before next n ≡ false → is_before tab n ≡ false
+    less : (n : ℕ) → table_is_before next n ≡ false → table_is_before tab n ≡ false
     less n out = grind (arith, nat_tests)
 
 -- ---- no other table has rows
 
 -- no table is there before or behind those that a keeper has
-no_row_outside : (t : Tables) → LieInTables t → (n : ℕ) (k : List ℕ) → is_before 16 n ≡ false → tables.get t (n ∷ k) ≡ None
+no_row_outside : (t : Tables) → LieInTables t → (n : ℕ) (k : List ℕ) → table_is_before 16 n ≡ false → tables.get t (n ∷ k) ≡ None
 no_row_outside t lie n k out = by (tables.get t (n ∷ k)) refl
   where
-    within : (m : ℕ) → 1 ≤ m → m ≤ 15 → is_before 16 m ≡ true
+    within : (m : ℕ) → 1 ≤ m → m ≤ 15 → table_is_before 16 m ≡ true
     within m low high = grind (arith, nat_tests)
 
     by : (o : Option (List ℕ)) → tables.get t (n ∷ k) ≡ o → o ≡ None
@@ -76,7 +76,7 @@ no_row_outside t lie n k out = by (tables.get t (n ∷ k)) refl
     by (Some r) e = let there = lie (n ∷ k) r e in absurd (false≢true (sym out ∙ within n there.0 there.1))
 
 pub all_cleared : (t u : Tables) → LieInTables u → AreCleared 16 t u → HaveNoRows u
-all_cleared t u lie a n k = elim (cases_Bool (is_before 16 n)) [
+all_cleared t u lie a n k = elim (cases_Bool (table_is_before 16 n)) [
   | inl e ↦ a.none n k e
   | inr e ↦ no_row_outside u lie n k e
 ]

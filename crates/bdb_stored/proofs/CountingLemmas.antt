@@ -41,7 +41,7 @@ use Rattle.bdb_update.specs.Keys.{keys_of}
 use Rattle.bdb_val.specs.Reads.{HaveTuples}
 use Rattle.bdb_val.specs.Steps.{counted}
 use Rattle.bdb_val.specs.WorldReads.{AreRowsAt}
-use Rattle.bdb_stored.specs.Counting.{AreWorlds, CountsRows, TellsCounts, explicit_rows}
+use Rattle.bdb_stored.specs.Counting.{AreRowsOfWorlds, CountsRows, TellsCounts, explicit_rows}
 use Rattle.bdb_stored.specs.Items.{items_of}
 use Rattle.bdb_catalog.specs.Bases.{StoresSome, StoresValid}
 use Rattle.bdb_catalog.specs.Opening.{IsPartOf}
@@ -116,7 +116,7 @@ module _ (t : Tables) (b : Contents) (v : StoresValid t b) where
         ∙ states_are_counted b.stmts
 
     -- a sum over rows world by world
-    sum_of_worlds : (f : List Held → ℕ) (ds : List (ℕ × ℕ)) (held : List (List Held)) → AllNamed (path_of ns) (numbers_of ds) → AreWorlds t ds held
+    sum_of_worlds : (f : List Held → ℕ) (ds : List (ℕ × ℕ)) (held : List (List Held)) → AllNamed (path_of ns) (numbers_of ds) → AreRowsOfWorlds t ds held
         → sum_by f held ≡ sum_by (λ w. f (world_of (keys_of b) b.stmts w)) (items_of (path_of ns) (numbers_of ds))
     sum_of_worlds f [] [] a r = refl
     sum_of_worlds f [] (x ∷ xs) a r = absurd r
@@ -129,13 +129,13 @@ module _ (t : Tables) (b : Contents) (v : StoresValid t b) where
         sum_by-cons f x xs ∙ ap (λ y. f y + sum_by f xs) is ∙ ap (λ n. f (world_of (keys_of b) b.stmts w.0) + n) rest
         ∙ sym (ap (sum_by (λ w. f (world_of (keys_of b) b.stmts w))) (items_cons (path_of ns) d.0 (numbers_of ds) w.0 w.1) ∙ sum_by-cons (λ w. f (world_of (keys_of b) b.stmts w)) w.0 (items_of (path_of ns) (numbers_of ds)))
 
-    rows_sum : (held : List (List Held)) → AreWorlds t es held → sum_by (λ x. length x) held ≡ sum_by (row_count (keys_of b) b.stmts) (states_of b.stmts)
+    rows_sum : (held : List (List Held)) → AreRowsOfWorlds t es held → sum_by (λ x. length x) held ≡ sum_by (row_count (keys_of b) b.stmts) (states_of b.stmts)
     rows_sum held r = sum_of_worlds (λ x. length x) es held wids_named r ∙ sum_over (row_count (keys_of b) b.stmts)
 
     few_rows : sum_by (row_count (keys_of b) b.stmts) (states_of b.stmts) ≤ 1310720000
     few_rows = subst (λ n. n ≤ 1310720000) (sum_of_states (keys_of b) b.stmts ns names h.worlds) (rows_are_few (keys_of b) b.stmts ns consistent (leb-true (length b.stmts) most_statements v.valid.stmts.few_stmts) names.few)
 
-    statements_sum : (held : List (List Held)) → AreWorlds t es held → sum_by explicit_rows held ≡ length b.stmts
+    statements_sum : (held : List (List Held)) → AreRowsOfWorlds t es held → sum_by explicit_rows held ≡ length b.stmts
     statements_sum held r =
         sum_of_worlds explicit_rows es held wids_named r ∙ sum_over (λ w. explicit_rows (world_of (keys_of b) b.stmts w))
         ∙ same_sum (states_of b.stmts)
@@ -148,10 +148,10 @@ module _ (t : Tables) (b : Contents) (v : StoresValid t b) where
             ∙ ap (λ n. n + sum_by (λ u. explicit_rows (world_of (keys_of b) b.stmts u)) ws) (explicit_are_statements (keys_of b) b.stmts v.valid.stmts.sorted consistent w)
             ∙ ap (λ n. length (at_path b.stmts w) + n) (same_sum ws) ∙ sym (sum_by-cons (λ u. length (at_path b.stmts u)) w ws)
 
-    pub rows_many : (held : List (List Held)) (rows : ℕ) → AreWorlds t es held → rows ≡ counted (sum_by (λ x. length x) held) → rows ≡ sum_by (row_count (keys_of b) b.stmts) (states_of b.stmts)
+    pub rows_many : (held : List (List Held)) (rows : ℕ) → AreRowsOfWorlds t es held → rows ≡ counted (sum_by (λ x. length x) held) → rows ≡ sum_by (row_count (keys_of b) b.stmts) (states_of b.stmts)
     rows_many held rows r e = let a = rows_sum held r in let f = few_rows in omega arith
 
-    pub statements_many : (held : List (List Held)) (stmts : ℕ) → AreWorlds t es held → stmts ≡ counted (sum_by explicit_rows held) → stmts ≡ length b.stmts
+    pub statements_many : (held : List (List Held)) (stmts : ℕ) → AreRowsOfWorlds t es held → stmts ≡ counted (sum_by explicit_rows held) → stmts ≡ length b.stmts
     statements_many held stmts r e =
         let a = statements_sum held r in
         let f = leb-true (length b.stmts) most_statements v.valid.stmts.few_stmts in
@@ -204,7 +204,7 @@ states_counted t es under b v = worlds_many t b v es under ∙ sym (states_are_c
 
 -- ---- one world more
 
-push_world : (t : Tables) (es : List (ℕ × ℕ)) (e : ℕ × ℕ) (hs : List (List Held)) (x : List Held) → AreWorlds t es hs → AreRowsAt t e.0 x → AreWorlds t (es ++ e ∷ []) (hs ++ x ∷ [])
+push_world : (t : Tables) (es : List (ℕ × ℕ)) (e : ℕ × ℕ) (hs : List (List Held)) (x : List Held) → AreRowsOfWorlds t es hs → AreRowsAt t e.0 x → AreRowsOfWorlds t (es ++ e ∷ []) (hs ++ x ∷ [])
 push_world t [] e [] x a r = (r, tt)
 push_world t [] e (h ∷ hs) x a r = absurd a
 push_world t (d ∷ ds) e [] x a r = absurd a
@@ -217,7 +217,7 @@ pub counts_more : (t : Tables) (es : List (ℕ × ℕ)) (i : ℕ) (stmts rows ne
     → AreRowsAt t (get_or es i (0, 0)).0 x → next_stmts ≡ min (stmts + explicit_rows x) (2 ^ 64 - 1) → next_rows ≡ min (rows + length x) (2 ^ 64 - 1) → CountsRows t (take (i + 1) es) next_stmts next_rows
 counts_more t es i stmts rows next_stmts next_rows x lt c r p q = record {
   held = c.held ++ x ∷ [];
-  are = subst (λ ds. AreWorlds t ds (c.held ++ x ∷ [])) (sym (take_more es i (0, 0) lt)) (push_world t (take i es) (get_or es i (0, 0)) c.held x c.are r);
+  are = subst (λ ds. AreRowsOfWorlds t ds (c.held ++ x ∷ [])) (sym (take_more es i (0, 0) lt)) (push_world t (take i es) (get_or es i (0, 0)) c.held x c.are r);
   explicit = (let a = c.explicit in let b = sum_by_push explicit_rows c.held x in omega arith);
   all = (let a = c.all in let b = sum_by_push (λ h. length h) c.held x in omega arith);
 }

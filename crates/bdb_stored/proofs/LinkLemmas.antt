@@ -28,13 +28,13 @@ use Rattle.bdb_stored.specs.Items.{with_item}
 use Rattle.bdb_stored.specs.Structure.{TellsEdge, TellsEdges, TellsLink, edges_of, worlds_with_links}
 use Rattle.bdb_catalog.specs.Bases.{StoresValid}
 use Rattle.bdb_catalog.specs.Opening.{IsPartOf}
-use Rattle.bdb_stored.specs.Worlds.{AreStates, TellsStates, place_of_number}
+use Rattle.bdb_stored.specs.Worlds.{AreStatesInOrder, TellsStates, place_of_number}
 use Rattle.bdb_names.specs.declared.named.NamedWorld.{NamedWorld}
 use Rattle.bdb_stored.proofs.ChildLemmas.{edge_is_read, end_is, users_less}
 use Rattle.bdb_stored.proofs.PlaceLemmas.{at_place, place_of_state, state_named}
 use Rattle.bdb_stored.proofs.UserLemmas.{numbers_are_users}
 
-module _ (t : Tables) (b : Contents) (v : StoresValid t b) (worlds : List NamedWorld) (are : AreStates t b v worlds) where
+module _ (t : Tables) (b : Contents) (v : StoresValid t b) (worlds : List NamedWorld) (are : AreStatesInOrder t b v worlds) where
   abbrev ns : Names
   ns = v.stored.names
 

@@ -22,7 +22,7 @@ use Rattle.bdb_paths.proofs.PlaceLemmas.{place_of_item}
 use Rattle.bdb_paths.proofs.StateLemmas.{list_has_states}
 use Rattle.bdb_tables.specs.Names.{Names, AreNames, path_of, number_of, is_named}
 use Rattle.bdb_catalog.specs.Bases.{StoresSome, StoresValid}
-use Rattle.bdb_stored.specs.Worlds.{AreStates, IsState, TellsStates, named_world, place_of_number}
+use Rattle.bdb_stored.specs.Worlds.{AreStatesInOrder, IsState, TellsStates, named_world, place_of_number}
 use Rattle.bdb_names.specs.declared.named.NamedWorld.{NamedWorld}
 
 -- ---- what a search finds
@@ -121,7 +121,7 @@ module _ (t : Tables) (b : Contents) (v : StoresValid t b) where
   states_named = sym (all_weaker (is_member path_cmp (states_of b.stmts)) (is_named ns) state_named (states_of b.stmts)) ∙ items_are_members path_exact (states_of b.stmts)
 
   -- the place of a path's number among the states is that of the path
-  pub place_of_state : (worlds : List NamedWorld) → AreStates t b v worlds → (w : List ℕ) (m : ℕ) → number_of ns w ≡ Some m → place_of_number worlds m ≡ place_in path_cmp (states_of b.stmts) w
+  pub place_of_state : (worlds : List NamedWorld) → AreStatesInOrder t b v worlds → (w : List ℕ) (m : ℕ) → number_of ns w ≡ Some m → place_of_number worlds m ≡ place_in path_cmp (states_of b.stmts) w
   place_of_state worlds is w m e = ap (λ xs. place_of_number xs m) is ∙ place_of_path ns names (states_of b.stmts) states_named w m e
 
   -- a world at a place is the state at this place
@@ -131,7 +131,7 @@ module _ (t : Tables) (b : Contents) (v : StoresValid t b) where
     pub path : x.path ≡ get_or (states_of b.stmts) k []
     pub place : k ≡ place_in path_cmp (states_of b.stmts) x.path
 
-  pub at_place : (worlds : List NamedWorld) → AreStates t b v worlds → (k : ℕ) (x d : NamedWorld) → k < length worlds → x ≡ get_or worlds k d → IsAt k x
+  pub at_place : (worlds : List NamedWorld) → AreStatesInOrder t b v worlds → (k : ℕ) (x d : NamedWorld) → k < length worlds → x ≡ get_or worlds k d → IsAt k x
   at_place worlds is k x d l e =
       let n = ap length is ∙ length-map (states_of b.stmts) (named_world ns) in
       let less : k < length (states_of b.stmts) = omega arith in

@@ -7,7 +7,7 @@ use Rattle.bdb_base.specs.Queries.{user_numbers}
 use Rattle.bdb_base.specs.States.{states_of}
 use Rattle.bdb_base.specs.WorldRows.{tuples_of}
 use Rattle.bdb_base.specs.declared.tuple.Tuple.{Tuple}
-use Rattle.bdb_canon.specs.Canonical.{AreTuples, canon_of}
+use Rattle.bdb_canon.specs.Canonical.{AreTuplesInOrder, canon_of}
 use Rattle.bdb_canon.specs.declared.structure.Canon.{Canon}
 use Rattle.bdb_canon.specs.declared.structure.CanonEdge.{CanonEdge}
 use Rattle.bdb_canon.specs.declared.structure.CanonRow.{CanonRow}
@@ -30,7 +30,7 @@ states_few t worlds s are =
     omega arith
 
 -- the tuples are in order, and few
-pub tuples_in_set : (t : Tables) (tuples : List Tuple) → StoresSome t → IsPartOf (λ b. tuples_of b.stmts) t tuples → AreTuples tuples
+pub tuples_in_set : (t : Tables) (tuples : List Tuple) → StoresSome t → IsPartOf (λ b. tuples_of b.stmts) t tuples → AreTuplesInOrder tuples
 tuples_in_set t tuples s told = tuples_are s.base.catalog s.base.stmts tuples s.stores.valid (told s.base s.stores)
 
 made : List CanonWorld → List Tuple → List CanonEdge → List CanonRow → Canon

@@ -14,16 +14,16 @@ abbrev pub explicit_rows : List Held → ℕ
 explicit_rows held = length (filter (λ h. h.explicit) held)
 
 -- these are the rows of worlds, one world after the other, each by its number
-abbrev pub AreWorlds : Tables → List (ℕ × ℕ) → List (List Held) → Type 0
-AreWorlds t [] [] = Unit {0}
-AreWorlds t [] (h ∷ hs) = ⊥
-AreWorlds t (e ∷ es) [] = ⊥
-AreWorlds t (e ∷ es) (h ∷ hs) = AreRowsAt t e.0 h × AreWorlds t es hs
+abbrev pub AreRowsOfWorlds : Tables → List (ℕ × ℕ) → List (List Held) → Type 0
+AreRowsOfWorlds t [] [] = Unit {0}
+AreRowsOfWorlds t [] (h ∷ hs) = ⊥
+AreRowsOfWorlds t (e ∷ es) [] = ⊥
+AreRowsOfWorlds t (e ∷ es) (h ∷ hs) = AreRowsAt t e.0 h × AreRowsOfWorlds t es hs
 
 -- worlds have so many explicit rows together, and so many rows
 pub record CountsRows (t : Tables) (worlds : List (ℕ × ℕ)) (stmts rows : ℕ) : Type 0 where
   pub held : List (List Held)
-  pub are : AreWorlds t worlds held
+  pub are : AreRowsOfWorlds t worlds held
   pub explicit : stmts ≡ counted (sum_by explicit_rows held)
   pub all : rows ≡ counted (sum_by (λ h. length h) held)
 

@@ -19,7 +19,7 @@ use Rattle.bdb_keep.specs.Tables.{Tables}
 use Rattle.bdb_paths.specs.Places.{place_in}
 use Rattle.bdb_stored.specs.Items.{with_item}
 use Rattle.bdb_catalog.specs.Bases.{StoresValid}
-use Rattle.bdb_stored.specs.Worlds.{AreStates, IsState}
+use Rattle.bdb_stored.specs.Worlds.{AreStatesInOrder, IsState}
 use Rattle.bdb_names.specs.declared.named.NamedWorld.{NamedWorld}
 
 -- a row is that of a live user
@@ -48,7 +48,7 @@ rows_of b = flat_map (rows_from (key_lengths b.catalog.rels) b.stmts (states_of 
 
 -- whichever valid base the tables store, and the worlds are its states: this is the state with its suffix link
 abbrev pub TellsLink : Tables → List NamedWorld → NamedWorld → CanonWorld → Type 0
-TellsLink t worlds x found = (b : Contents) (v : StoresValid t b) → AreStates t b v worlds → IsState t b v x → found ≡ world_entry (states_of b.stmts) x.path
+TellsLink t worlds x found = (b : Contents) (v : StoresValid t b) → AreStatesInOrder t b v worlds → IsState t b v x → found ≡ world_entry (states_of b.stmts) x.path
 
 -- a number is the place of the state of a path
 abbrev pub IsPlaceOf : Contents → NamedWorld → ℕ → Type 0
@@ -56,12 +56,12 @@ IsPlaceOf b x from = from ≡ place_in path_cmp (states_of b.stmts) x.path
 
 -- whichever valid base the tables store, and the worlds are its states: this is the edge of a state for a user, if it has one
 abbrev pub TellsEdge : Tables → List NamedWorld → NamedWorld → ℕ → ℕ → Option CanonEdge → Type 0
-TellsEdge t worlds x from uid found = (b : Contents) (v : StoresValid t b) → AreStates t b v worlds → IsState t b v x → IsPlaceOf b x from → is_user b.catalog.users uid ≡ true
+TellsEdge t worlds x from uid found = (b : Contents) (v : StoresValid t b) → AreStatesInOrder t b v worlds → IsState t b v x → IsPlaceOf b x from → is_user b.catalog.users uid ≡ true
     → with_item found [] ≡ edges_at (states_of b.stmts) x.path uid
 
 -- whichever valid base the tables store, and the worlds are its states: these are the edges of a state, by user
 abbrev pub TellsEdges : Tables → List NamedWorld → NamedWorld → ℕ → List ℕ → List CanonEdge → Type 0
-TellsEdges t worlds x from uids found = (b : Contents) (v : StoresValid t b) → AreStates t b v worlds → IsState t b v x → IsPlaceOf b x from
+TellsEdges t worlds x from uids found = (b : Contents) (v : StoresValid t b) → AreStatesInOrder t b v worlds → IsState t b v x → IsPlaceOf b x from
     → list_all (is_user b.catalog.users) uids ≡ true → found ≡ edges_from uids (states_of b.stmts) x.path
 
 -- a row of the world at a place, with the place of its tuple

@@ -23,12 +23,12 @@ abbrev pub IsState : (t : Tables) (b : Contents) → StoresValid t b → NamedWo
 IsState t b v x = path_of v.stored.names x.wid ≡ Some x.path
 
 -- worlds are the states of the base in order, with their numbers
-abbrev pub AreStates : (t : Tables) (b : Contents) → StoresValid t b → List NamedWorld → Type 0
-AreStates t b v worlds = worlds ≡ map (named_world v.stored.names) (states_of b.stmts)
+abbrev pub AreStatesInOrder : (t : Tables) (b : Contents) → StoresValid t b → List NamedWorld → Type 0
+AreStatesInOrder t b v worlds = worlds ≡ map (named_world v.stored.names) (states_of b.stmts)
 
 -- whichever valid base the tables store, these are its states in order, with their numbers
 abbrev pub TellsStates : Tables → List NamedWorld → Type 0
-TellsStates t worlds = (b : Contents) (v : StoresValid t b) → AreStates t b v worlds
+TellsStates t worlds = (b : Contents) (v : StoresValid t b) → AreStatesInOrder t b v worlds
 
 -- whichever valid base the tables store, this is the state one user deeper than another, if there is one
 abbrev pub TellsChild : Tables → NamedWorld → ℕ → Option NamedWorld → Type 0

@@ -14,13 +14,13 @@ use Rattle.bdb_update.specs.Calls.{MayMeet, StoresSized, clash_of, with_stmts, s
 use Rattle.bdb_catalog.specs.Bases.{StoresValid}
 
 -- the number of a table that is before another
-abbrev pub is_before : ℕ → ℕ → Bool
-is_before tab n = nat_le 1 n && nat_lt n tab
+abbrev pub table_is_before : ℕ → ℕ → Bool
+table_is_before tab n = nat_le 1 n && nat_lt n tab
 
 -- the tables before one have no row, and the others are as they were
 pub record AreCleared (tab : ℕ) (t u : Tables) : Type 0 where
-  pub none : (n : ℕ) (k : List ℕ) → is_before tab n ≡ true → tables.get u (n ∷ k) ≡ None
-  pub others : SameBut (is_before tab) t u
+  pub none : (n : ℕ) (k : List ℕ) → table_is_before tab n ≡ true → tables.get u (n ∷ k) ≡ None
+  pub others : SameBut (table_is_before tab) t u
 
 -- one table has no row, and the others are as they were
 pub record IsCleared (tab : ℕ) (t u : Tables) : Type 0 where

@@ -12,9 +12,9 @@ use Rattle.bdb_session.specs.Undoing.{accepts, counts, next_state, reply_of}
 use Rattle.bdb_session.specs.declared.event.Event.{Event}
 use Rattle.bdb_session.specs.declared.event.Event.TheVariants as event
 use Rattle.bdb_session.specs.declared.reply.Reply.{Reply}
-use Rattle.bdb_session.specs.declared.stop.StopError.{StopError}
+use Rattle.bdb_session.specs.declared.error.StopError.{StopError}
 use Rattle.bdb_stream.specs.Carried.{Carried, by_session}
-use Rattle.bdb_stream.specs.Handled.{IsAnswer}
+use Rattle.bdb_stream.specs.Handled.{TellsAnswer}
 use Rattle.bdb_stream.specs.Handling.{IsAt, IsAtSome}
 use Rattle.bdb_stream.specs.declared.error.RunError.{RunError}
 use Rattle.bdb_stream.specs.Told.{TellsReply}
@@ -41,7 +41,7 @@ carries_one s e now first last agrees commits = record {
 
 -- and the reply was written, or a part of it
 answers_one : (s : Timeline) (e : Event) (accepted : Bool) (text : List ℕ) (now : Known) (first last : Seen) (old new : Option (List ℕ)) → Carried s (e ∷ []) now first last
-    → accepted ≡ accepts s e → text ≡ reply_of s e → Appends old new text → IsAnswer by_session s e now first last old new (Ok accepted)
+    → accepted ≡ accepts s e → text ≡ reply_of s e → Appends old new text → TellsAnswer by_session s e now first last old new (Ok accepted)
 answers_one s e accepted text now first last old new carried fine is written = record {
   carried = carried;
   stands = tt;
@@ -50,14 +50,14 @@ answers_one s e accepted text now first last old new carried fine is written = r
 }
 
 answers_part : (s : Timeline) (e : Event) (text : List ℕ) (now : Known) (first last : Seen) (old new : Option (List ℕ)) → Carried s (e ∷ []) now first last
-    → text ≡ reply_of s e → (k : ℕ) × (k ≤ length text) × Appends old new (take k text) → IsAnswer by_session s e now first last old new (Err Sink)
+    → text ≡ reply_of s e → (k : ℕ) × (k ≤ length text) × Appends old new (take k text) → TellsAnswer by_session s e now first last old new (Err Sink)
 answers_part s e text now first last old new carried is written = (carried, (written.0, subst (λ (x : List ℕ). Appends old new (take written.0 x)) is written.2))
 
 -- what comes of an event, once what the session answered is written
 pub answers_by : (s : Timeline) (e : Event) (reply : Result Reply StopError) (before now : Known) (first last : Seen) (old new : Option (List ℕ)) (result : Result Bool RunError)
     → Remembers first.kept before s → OnOk reply (Remembers last.kept now (next_state s e)) → OnOk reply (Rises (counts s e) first.commits last.commits)
     → IfOk reply (λ r. r.accepted ≡ accepts s e) → IfOk reply (λ r. r.text ≡ reply_of s e) → OnErr reply (now ≡ before) → OnErr reply (Unchanged first last)
-    → TellsReply reply old new result → IsAnswer by_session s e now first last old new result
+    → TellsReply reply old new result → TellsAnswer by_session s e now first last old new result
 answers_by s e (Ok r) before now first last old new (Ok fine) a next commits accepted text same err told =
     answers_one s e fine r.text now first last old new (carries_one s e now first last next commits) (told.0 ∙ accepted) text told.1
 answers_by s e (Ok r) before now first last old new (Err Sink) a next commits accepted text same err told =
@@ -92,11 +92,11 @@ at_some t k some = record { point = some.timeline; at = at_timeline t k some.tim
 
 -- a piece is answered as the event for which it asks
 module _ (s : Timeline) (p : Piece) (next : Known) (first last : Seen) (old new : Option (List ℕ)) (result : Result Bool RunError) where
-  pub command_answers : (bytes text : List ℕ) → p ≡ piece.Cmd text → bytes ≡ text → IsAnswer by_session s (event.Piece bytes) next first last old new result
-      → IsAnswer by_session s (event_of p) next first last old new result
+  pub command_answers : (bytes text : List ℕ) → p ≡ piece.Cmd text → bytes ≡ text → TellsAnswer by_session s (event.Piece bytes) next first last old new result
+      → TellsAnswer by_session s (event_of p) next first last old new result
   command_answers bytes text is same answer =
-      subst (λ (x : Piece). IsAnswer by_session s (event_of x) next first last old new result) (sym is)
-      (subst (λ (b : List ℕ). IsAnswer by_session s (event.Piece b) next first last old new result) same answer)
+      subst (λ (x : Piece). TellsAnswer by_session s (event_of x) next first last old new result) (sym is)
+      (subst (λ (b : List ℕ). TellsAnswer by_session s (event.Piece b) next first last old new result) same answer)
 
-  pub long_answers : p ≡ piece.Long → IsAnswer by_session s event.Long next first last old new result → IsAnswer by_session s (event_of p) next first last old new result
-  long_answers is answer = subst (λ (x : Piece). IsAnswer by_session s (event_of x) next first last old new result) (sym is) answer
+  pub long_answers : p ≡ piece.Long → TellsAnswer by_session s event.Long next first last old new result → TellsAnswer by_session s (event_of p) next first last old new result
+  long_answers is answer = subst (λ (x : Piece). TellsAnswer by_session s (event_of x) next first last old new result) (sym is) answer

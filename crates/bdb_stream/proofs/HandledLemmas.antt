@@ -7,7 +7,7 @@ use Rattle.bdb_base.specs.Causes.{Rises}
 use Rattle.bdb_keep.specs.Seen.{Seen, NeverFall}
 use Rattle.bdb_lex.specs.declared.token.Rest.{Rest}
 use Rattle.bdb_session.specs.Known.{Known}
-use Rattle.bdb_stream.specs.Handled.{Carried, Comes, Ends, EndsEarly, IsAnswer, Writes, WritesPart}
+use Rattle.bdb_stream.specs.Handled.{Carried, Comes, EndsEarly, RunEnds, TellsAnswer, Writes, WritesPart}
 use Rattle.bdb_stream.specs.Handling.{Handling, IsAt, IsInOrder}
 use Rattle.bdb_stream.specs.declared.error.RunError.{RunError}
 use Rattle.bdb_stream.specs.declared.error.RunError.TheVariants.{Source, Sink, Keeper, Memory, Large}
@@ -43,7 +43,7 @@ grows_as a b x y e h = subst (λ (l : List ℕ). Appends a b l) e h
 
 -- how one was answered, whichever point was reached
 abbrev pub AnswersOf : {H : Type 0} (m : Handling H) → m.Asked → H → H → Seen → Seen → Option (List ℕ) → Option (List ℕ) → Result Bool RunError → Type 0
-AnswersOf m a before now first last old new result = (p : m.Point) → IsAt m first.kept before p → IsAnswer m p a now first last old new result
+AnswersOf m a before now first last old new result = (p : m.Point) → IsAt m first.kept before p → TellsAnswer m p a now first last old new result
 
 module _ {H : Type 0} (m : Handling H) (o : IsInOrder m) where
   -- ---- several things behind others
@@ -144,7 +144,7 @@ module _ {H : Type 0} (m : Handling H) (o : IsInOrder m) where
   }
 
   -- one was answered, and the run comes through it
-  pub one_comes : (p : m.Point) (a : m.Asked) (next : H) (first last : Seen) (old new : Option (List ℕ)) (fine : Bool) → IsAnswer m p a next first last old new (Ok fine) → Comes m p (a ∷ []) next first last old new fine
+  pub one_comes : (p : m.Point) (a : m.Asked) (next : H) (first last : Seen) (old new : Option (List ℕ)) (fine : Bool) → TellsAnswer m p a next first last old new (Ok fine) → Comes m p (a ∷ []) next first last old new fine
   one_comes p a next first last old new fine answer =
       let q = m.next_point p a in
       record {
@@ -159,7 +159,7 @@ module _ {H : Type 0} (m : Handling H) (o : IsInOrder m) where
   none_written p old new none = grows_as old new [] (m.replies p []) (sym (o.no_reply p)) none
 
   -- or stops at it
-  pub one_stops : (p : m.Point) (a : m.Asked) (rest : List m.Asked) (next : H) (first last : Seen) (old new : Option (List ℕ)) (stop : RunError) → IsAnswer m p a next first last old new (Err stop)
+  pub one_stops : (p : m.Point) (a : m.Asked) (rest : List m.Asked) (next : H) (first last : Seen) (old new : Option (List ℕ)) (stop : RunError) → TellsAnswer m p a next first last old new (Err stop)
       → EndsEarly m p (a ∷ rest) (m.session_of next) first last old new stop
   one_stops p a rest next first last old new Sink answer = record {
     done = a ∷ [];
@@ -211,15 +211,15 @@ module _ {H : Type 0} (m : Handling H) (o : IsInOrder m) where
 
   -- what stands behind the last semicolon was answered, where it asks for nothing, and where it asks for something
   pub nothing_ends : (p : m.Point) (rest is : Rest) (hand : H) (now : Seen) (old new : Option (List ℕ)) → rest ≡ is → m.rest_asks is ≡ [] → IsAt m now.kept hand p → Appends old new []
-      → Ends m p (m.rest_asks rest) hand now now old new (Ok true)
+      → RunEnds m p (m.rest_asks rest) hand now now old new (Ok true)
   nothing_ends p rest is hand now old new e asks at none =
-      subst (λ (l : List m.Asked). Ends m p l hand now now old new (Ok true)) (sym (ap m.rest_asks e ∙ asks)) (comes_none p hand now old new at none)
+      subst (λ (l : List m.Asked). RunEnds m p l hand now now old new (Ok true)) (sym (ap m.rest_asks e ∙ asks)) (comes_none p hand now old new at none)
 
   pub one_ends : (p : m.Point) (rest is : Rest) (a : m.Asked) (next : H) (first last : Seen) (old new : Option (List ℕ)) (result : Result Bool RunError) → rest ≡ is → m.rest_asks is ≡ a ∷ []
-      → IsAnswer m p a next first last old new result → Ends m p (m.rest_asks rest) next first last old new result
+      → TellsAnswer m p a next first last old new result → RunEnds m p (m.rest_asks rest) next first last old new result
   one_ends p rest is a next first last old new result e asks answer =
-      subst (λ (l : List m.Asked). Ends m p l next first last old new result) (sym (ap m.rest_asks e ∙ asks)) (by_result result answer)
+      subst (λ (l : List m.Asked). RunEnds m p l next first last old new result) (sym (ap m.rest_asks e ∙ asks)) (by_result result answer)
     where
-      by_result : (r : Result Bool RunError) → IsAnswer m p a next first last old new r → Ends m p (a ∷ []) next first last old new r
+      by_result : (r : Result Bool RunError) → TellsAnswer m p a next first last old new r → RunEnds m p (a ∷ []) next first last old new r
       by_result (Ok fine) h = one_comes p a next first last old new fine h
       by_result (Err stop) h = one_stops p a [] next first last old new stop h

@@ -32,12 +32,12 @@ pub record Answered {H : Type 0} (m : Handling H) (p : m.Point) (a : m.Asked) (h
 
 -- How one was answered: with an Ok it was carried out and the reply is written; where the sink failed it was carried out and a part of
 -- the reply is written; after another Err nothing was carried out or written.
-abbrev pub IsAnswer : {H : Type 0} (m : Handling H) → m.Point → m.Asked → H → Seen → Seen → Option (List ℕ) → Option (List ℕ)
+abbrev pub TellsAnswer : {H : Type 0} (m : Handling H) → m.Point → m.Asked → H → Seen → Seen → Option (List ℕ) → Option (List ℕ)
     → Result Bool RunError → Type 0
-IsAnswer m p a hand first now old new (Ok fine) = Answered m p a hand first now old new fine
-IsAnswer m p a hand first now old new (Err Sink) = Carried m p (a ∷ []) (m.session_of hand) first now
+TellsAnswer m p a hand first now old new (Ok fine) = Answered m p a hand first now old new fine
+TellsAnswer m p a hand first now old new (Err Sink) = Carried m p (a ∷ []) (m.session_of hand) first now
     × ((part : ℕ) × Appends old new (take part (m.reply_of p a)))
-IsAnswer m p a hand first now old new (Err _) = Carried m p [] (m.session_of hand) first now × Appends old new []
+TellsAnswer m p a hand first now old new (Err _) = Carried m p [] (m.session_of hand) first now × Appends old new []
 
 -- The run has come through these, and all replies are written.
 pub record Comes {H : Type 0} (m : Handling H) (p : m.Point) (done : List m.Asked) (hand : H) (first now : Seen) (old new : Option (List ℕ))
@@ -61,7 +61,7 @@ pub record EndsEarly {H : Type 0} (m : Handling H) (p : m.Point) (asked : List m
   pub written : Writes m stop p done old new
 
 -- how a run over these ends
-abbrev pub Ends : {H : Type 0} (m : Handling H) → m.Point → List m.Asked → H → Seen → Seen → Option (List ℕ) → Option (List ℕ)
+abbrev pub RunEnds : {H : Type 0} (m : Handling H) → m.Point → List m.Asked → H → Seen → Seen → Option (List ℕ) → Option (List ℕ)
     → Result Bool RunError → Type 0
-Ends m p asked hand first now old new result =
+RunEnds m p asked hand first now old new result =
     MatchResult result (Comes m p asked hand first now old new) (EndsEarly m p asked (m.session_of hand) first now old new)

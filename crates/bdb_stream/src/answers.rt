@@ -10,7 +10,7 @@ ghost use Rattle.bdb_session.specs.Known.{Remembers, RemembersSome};
 ghost use Rattle.bdb_session.specs.declared.event.Event.TheVariants as event;
 ghost use Rattle.bdb_undo.specs.Timelines.{Timeline};
 ghost use Rattle.bdb_stream.specs.Carried.{by_session, session_in_order};
-ghost use Rattle.bdb_stream.specs.Handled.{IsAnswer};
+ghost use Rattle.bdb_stream.specs.Handled.{TellsAnswer};
 ghost use Rattle.bdb_stream.specs.Streams.{Streams};
 ghost use Rattle.bdb_stream.specs.Told.{TellsReply};
 
@@ -115,7 +115,7 @@ fn answer<O: Sink, K: Keeper>(
     requires still { IsStill (K.seen keeper.old) }
     requires agrees { RemembersSome (K.seen keeper.old).kept session.old }
     ensures answered { (s : Timeline) → Remembers (K.seen keeper.old).kept session.old s
-        → IsAnswer by_session s event.now session.new (K.seen keeper.old) (K.seen keeper.new)
+        → TellsAnswer by_session s event.now session.new (K.seen keeper.old) (K.seen keeper.new)
         (O.written out.old) (O.written out.new) result }
     ensures still { IsStill (K.seen keeper.new) }
     ensures agrees { RemembersSome (K.seen keeper.new).kept session.new }
@@ -144,7 +144,7 @@ fn answer_command<O: Sink, K: Keeper>(
     requires still { IsStill (K.seen keeper.old) }
     requires agrees { RemembersSome (K.seen keeper.old).kept session.old }
     ensures answered { (s : Timeline) → Remembers (K.seen keeper.old).kept session.old s
-        → IsAnswer by_session s (event.Piece bytes.now) session.new (K.seen keeper.old)
+        → TellsAnswer by_session s (event.Piece bytes.now) session.new (K.seen keeper.old)
         (K.seen keeper.new) (O.written out.old) (O.written out.new) result }
     ensures still { IsStill (K.seen keeper.new) }
     ensures agrees { RemembersSome (K.seen keeper.new).kept session.new }

@@ -3,7 +3,7 @@ ghost use Rattle.std.specs.Prelude.{◌≤◌, OnOk, OnErr, IsErrOf};
 ghost use Rattle.bdb_base.specs.Causes.{Rose, HasCause};
 ghost use Rattle.bdb_keep.specs.Seen.{IsStill, NeverFall};
 ghost use Rattle.bdb_session.specs.Known.{RemembersSome};
-ghost use Rattle.bdb_stream.specs.Handled.{Ends, IsAnswer};
+ghost use Rattle.bdb_stream.specs.Handled.{RunEnds, TellsAnswer};
 ghost use Rattle.bdb_stream.specs.Handling.{Handling, IsAt, IsAtSome, IsInOrder};
 
 use crate::error::RunError;
@@ -27,7 +27,7 @@ pub trait Handler {
         requires still { IsStill (K.seen keeper.old) }
         requires at { IsAtSome handling (K.seen keeper.old).kept self.old }
         ensures answered { (p : handling.Point) → IsAt handling (K.seen keeper.old).kept self.old p
-            → IsAnswer handling p (handling.asked_by piece.now) self.new (K.seen keeper.old)
+            → TellsAnswer handling p (handling.asked_by piece.now) self.new (K.seen keeper.old)
             (K.seen keeper.new) (O.written out.old) (O.written out.new) result }
         ensures at { OnOk result (IsAtSome handling (K.seen keeper.new).kept self.new) }
         ensures still { IsStill (K.seen keeper.new) }
@@ -50,7 +50,7 @@ pub trait Handler {
         requires still { IsStill (K.seen keeper.old) }
         requires at { IsAtSome handling (K.seen keeper.old).kept self.old }
         ensures ends { (p : handling.Point) → IsAt handling (K.seen keeper.old).kept self.old p
-            → Ends handling p (handling.rest_asks rest) self.new (K.seen keeper.old)
+            → RunEnds handling p (handling.rest_asks rest) self.new (K.seen keeper.old)
             (K.seen keeper.new) (O.written out.old) (O.written out.new) result }
         ensures still { IsStill (K.seen keeper.new) }
         ensures agrees { RemembersSome (K.seen keeper.new).kept (handling.session_of self.new) }

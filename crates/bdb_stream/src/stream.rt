@@ -6,7 +6,7 @@ ghost use Rattle.bdb_base.specs.Limits.{longest_script};
 ghost use Rattle.bdb_keep.specs.Seen.{IsStill, NeverFall};
 ghost use Rattle.bdb_lex.specs.Cut.{ready, pieces_from, state_after};
 ghost use Rattle.bdb_session.specs.Known.{RemembersSome};
-ghost use Rattle.bdb_stream.specs.Handled.{Ends};
+ghost use Rattle.bdb_stream.specs.Handled.{RunEnds};
 ghost use Rattle.bdb_stream.specs.Handling.{IsAt, IsAtSome};
 ghost use Rattle.bdb_stream.specs.Reads.{longest_read, Streams};
 
@@ -113,7 +113,7 @@ fn answer_block<H: Handler, K: Keeper, O: Sink>(
     ensures cutter { OnOk result (cutter.new ≡ ready (state_after cutter.old.state block.now)) }
     ensures ends { (p : H.handling.Point)
         → IsAt H.handling (K.seen keeper.old).kept handler.old p
-        → Ends H.handling p (map H.handling.asked_by (pieces_from cutter.old.state block.now))
+        → RunEnds H.handling p (map H.handling.asked_by (pieces_from cutter.old.state block.now))
         handler.new (K.seen keeper.old) (K.seen keeper.new) (O.written out.old) (O.written out.new)
         result }
     ensures at { OnOk result (IsAtSome H.handling (K.seen keeper.new).kept handler.new) }

@@ -35,8 +35,8 @@ is_word [] = false
 is_word (c ∷ cs) = begins_word c && (list_all is_in_word cs && nat_le (length (c ∷ cs)) longest_word)
 
 -- a word that isn't reserved
-abbrev pub IsName : List ℕ → Type 0
-IsName w = (is_word w ≡ true) × (is_reserved w ≡ false)
+abbrev pub IsNameWord : List ℕ → Type 0
+IsNameWord w = (is_word w ≡ true) × (is_reserved w ≡ false)
 
 -- UTF-8 without characters below U+0020
 abbrev pub IsContent : List ℕ → Type 0
@@ -48,12 +48,12 @@ IsPrintableValue (values.Int n) = Unit {0}
 IsPrintableValue (values.Text t) = IsContent t
 
 -- a column of a change: a name without an alias
-abbrev pub IsBareCol : RawCol → Type 0
-IsBareCol c = (c.alias ≡ None) × IsName c.col
+abbrev pub IsBareColumn : RawCol → Type 0
+IsBareColumn c = (c.alias ≡ None) × IsNameWord c.col
 
 -- a column of a query: a name behind an alias
-abbrev pub IsFullCol : RawCol → Type 0
-IsFullCol c = IsSomeAnd c.alias IsName × IsName c.col
+abbrev pub IsFullColumn : RawCol → Type 0
+IsFullColumn c = IsSomeAnd c.alias IsNameWord × IsNameWord c.col
 
 -- the right side of a comparison, whose columns are as IsCol says
 abbrev pub IsPrintableSide : (RawCol → Type 0) → RawSide → Type 0
@@ -67,32 +67,32 @@ IsPrintableCond IsCol c = IsCol c.left × IsPrintableSide IsCol c.right
 -- a user of a path
 abbrev pub IsPrintableWho : RawWho → Type 0
 IsPrintableWho (whos.Name t) = IsContent t
-IsPrintableWho (whos.Col c) = IsFullCol c
+IsPrintableWho (whos.Col c) = IsFullColumn c
 
 -- an item of a query
 abbrev pub IsPrintableItem : RawItem → Type 0
-IsPrintableItem i = AllByRecursion IsPrintableWho i.path × IsName i.rel × IsName i.alias
+IsPrintableItem i = AllByRecursion IsPrintableWho i.path × IsNameWord i.rel × IsNameWord i.alias
 
 -- a column that an update sets
 abbrev pub IsPrintableSet : RawSet → Type 0
-IsPrintableSet s = IsName s.col × IsPrintableValue s.to
+IsPrintableSet s = IsNameWord s.col × IsPrintableValue s.to
 
 -- a query
 abbrev pub IsPrintableQuery : RawQuery → Type 0
-IsPrintableQuery q = AllByRecursion IsFullCol q.take × AllByRecursion IsPrintableItem q.items × AllByRecursion (IsPrintableCond IsFullCol) q.conds
+IsPrintableQuery q = AllByRecursion IsFullColumn q.take × AllByRecursion IsPrintableItem q.items × AllByRecursion (IsPrintableCond IsFullColumn) q.conds
 
 -- a path and a tuple
 abbrev pub IsPrintableSigned : List (List ℕ) → List ℕ → List Value → Type 0
-IsPrintableSigned users rel vals = AllByRecursion IsContent users × IsName rel × AllByRecursion IsPrintableValue vals
+IsPrintableSigned users rel vals = AllByRecursion IsContent users × IsNameWord rel × AllByRecursion IsPrintableValue vals
 
 -- the names, the texts and the columns of a command are as the grammar wants them
 abbrev pub HasPrintableParts : Command → Type 0
 HasPrintableParts (CreateUser name) = IsContent name
 HasPrintableParts (DropUser name) = IsContent name
-HasPrintableParts (CreateRelation name cols key) = IsName name × AllByRecursion (λ (c : ColDef). IsName c.name) cols
+HasPrintableParts (CreateRelation name cols key) = IsNameWord name × AllByRecursion (λ (c : ColDef). IsNameWord c.name) cols
 HasPrintableParts (Insert users sign rel vals) = IsPrintableSigned users rel vals
-HasPrintableParts (Delete users sign rel conds) = AllByRecursion IsContent users × IsName rel × AllByRecursion (IsPrintableCond IsBareCol) conds
-HasPrintableParts (Update users sign rel sets conds) = AllByRecursion IsContent users × IsName rel × AllByRecursion IsPrintableSet sets × AllByRecursion (IsPrintableCond IsBareCol) conds
+HasPrintableParts (Delete users sign rel conds) = AllByRecursion IsContent users × IsNameWord rel × AllByRecursion (IsPrintableCond IsBareColumn) conds
+HasPrintableParts (Update users sign rel sets conds) = AllByRecursion IsContent users × IsNameWord rel × AllByRecursion IsPrintableSet sets × AllByRecursion (IsPrintableCond IsBareColumn) conds
 HasPrintableParts (Select query) = IsPrintableQuery query
 HasPrintableParts (Explain query) = IsPrintableQuery query
 HasPrintableParts (ShowWorld users) = AllByRecursion IsContent users

@@ -15,7 +15,7 @@ use Rattle.bdb_key.specs.Reading.{Reads}
 use Rattle.bdb_key.specs.Rows.{IsAnyMark, mark_bytes}
 use Rattle.bdb_tables.specs.Codec.{IsEntryOf, IsRowOf, HasAt}
 use Rattle.bdb_tables.specs.Grammar.{IsEntry}
-use Rattle.bdb_tables.specs.GroupMarks.{group_bytes, IsGroup, in_group, numbered, AreMarks, AreNumbered, HasMark, HaveMarks, AreChanges, IsNumber, IsNumbered, marks_codec}
+use Rattle.bdb_tables.specs.GroupMarks.{group_bytes, IsGroup, in_group, numbered, AreMarks, AreNumbered, HasMark, HaveMarks, AreChanges, AreNumberBytes, IsNumbered, marks_codec}
 use Rattle.bdb_tables.specs.InUse.{ValKey, IsValKey, val_bytes, val_codec}
 use Rattle.bdb_tables.specs.Marks.{Mark}
 use Rattle.bdb_tables.specs.Spans.{IsUnder, AreUnder}
@@ -112,7 +112,7 @@ last_is : (key row : List ℕ) (e : IsEntryOf val_codec key row) → drop (lengt
 last_is key row e = subst (λ b. drop (length b - 4) b ≡ num_bytes e.key.3) e.key_reads.spelled (number_at_end e.key)
 
 -- the last four bytes of a key are the number of a tuple
-pub ends_with_number : (key row last : List ℕ) → IsEntryOf val_codec key row → last ≡ drop (length key - 4) key → IsNumber last
+pub ends_with_number : (key row last : List ℕ) → IsEntryOf val_codec key row → last ≡ drop (length key - 4) key → AreNumberBytes last
 ends_with_number key row last e is = (e.key.3, record { fits = e.key_reads.fits.tuple; spelled = sym (is ∙ last_is key row e) })
 
 pub is_numbered : (key row last : List ℕ) (n : ℕ) (m : Mark) → IsEntryOf val_codec key row → last ≡ drop (length key - 4) key → Reads IsNum num_bytes last n → Reads IsAnyMark mark_bytes row m

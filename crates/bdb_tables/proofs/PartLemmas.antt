@@ -4,7 +4,7 @@ use Rattle.std.specs.List.{AllByRecursion}
 use Rattle.bdb_base.specs.declared.kinds.Value.{Value}
 use Rattle.bdb_base.specs.declared.kinds.Value.TheVariants.{Int, Text}
 use Rattle.bdb_key.specs.Bytes.{num_bytes, vals_bytes}
-use Rattle.bdb_key.specs.Grammar.{IsNum, IsWhole, HasPlainText, IsPlainValue, ArePlain, AreKeyVals}
+use Rattle.bdb_key.specs.Grammar.{IsNum, HasEightBytes, HasPlainText, IsPlainValue, ArePlain, AreKeyVals}
 use Rattle.bdb_key.specs.Reading.{Leads, NoneLeads, NoneReads}
 use Rattle.bdb_key.specs.Order.{vals_cmp}
 use Rattle.bdb_key.proofs.Compared.{lists, lists_tie}
@@ -31,16 +31,16 @@ val_none_tuple bytes rest more pair values p v none key h =
     let form = vals_form key.2 values (num_bytes key.3) more h.fits.key v.fits (rel.1 ∙ v.split) in
     none key.3 (record { fits = h.fits.tuple; spelled = form.1 })
 
-value_plain : (v : Value) → HasPlainText v → IsWhole v → IsPlainValue v
+value_plain : (v : Value) → HasPlainText v → HasEightBytes v → IsPlainValue v
 value_plain (Int m) t w = w
 value_plain (Text s) t w = t
 
-all_plain : (vs : List Value) → AllByRecursion HasPlainText vs → AllByRecursion IsWhole vs → ArePlain vs
+all_plain : (vs : List Value) → AllByRecursion HasPlainText vs → AllByRecursion HasEightBytes vs → ArePlain vs
 all_plain [] t w = tt
 all_plain (v ∷ vs) t w = (value_plain v t.0 w.0, all_plain vs t.1 w.1)
 
 -- values that were written are those of a key
-pub written_key : (vs : List Value) → HaveKeyTexts vs → AllByRecursion IsWhole vs → AreKeyVals vs
+pub written_key : (vs : List Value) → HaveKeyTexts vs → AllByRecursion HasEightBytes vs → AreKeyVals vs
 written_key vs h w = record { short = h.short; plain = all_plain vs h.texts w }
 
 -- bytes that were appended one after the other

@@ -6,12 +6,12 @@ use Rattle.std.proofs.lemmas.Bool.{and_from}
 use Rattle.bdb_base.specs.declared.kinds.Value.{Value}
 use Rattle.bdb_base.specs.declared.kinds.Value.TheVariants.{Int, Text}
 use Rattle.bdb_key.specs.Bytes.{value_bytes, values_bytes}
-use Rattle.bdb_key.specs.Grammar.{ArePlain, IsPlainValue, IsWhole}
+use Rattle.bdb_key.specs.Grammar.{ArePlain, HasEightBytes, IsPlainValue}
 use Rattle.bdb_key.proofs.Readings.{value_form}
 use Rattle.bdb_base.specs.Bases.{is_written}
 use Rattle.bdb_tables.specs.Prefixes.{HasPutValues}
 
-plain_value : (v : Value) → is_written v ≡ true → IsWhole v → IsPlainValue v
+plain_value : (v : Value) → is_written v ≡ true → HasEightBytes v → IsPlainValue v
 plain_value (Int m) w h = h
 plain_value (Text t) w h = w
 
@@ -28,7 +28,7 @@ pub put_unwritten : (old new : List ℕ) (v : Value) (vs : List Value) → is_wr
 put_unwritten old new v vs e = ap (λ b. b && list_all is_written vs) e
 
 -- one that tuples may have was put, and then the others
-pub put_more : (all : Bool) (old mid new : List ℕ) (v : Value) (vs : List Value) → is_written v ≡ true → IsWhole v → mid ≡ old ++ value_bytes v → HasPutValues all mid new vs → HasPutValues all old new (v ∷ vs)
+pub put_more : (all : Bool) (old mid new : List ℕ) (v : Value) (vs : List Value) → is_written v ≡ true → HasEightBytes v → mid ≡ old ++ value_bytes v → HasPutValues all mid new vs → HasPutValues all old new (v ∷ vs)
 put_more true old mid new v vs w whole e h = (
   h.0 ∙ ap (λ (x : List ℕ). x ++ values_bytes vs) e ∙ append_assoc old (value_bytes v) (values_bytes vs),
   (plain_value v w whole, h.1),

@@ -76,8 +76,8 @@ abbrev pub SpellNumbered : Listed → List (ℕ × Mark) → Type 0
 SpellNumbered bytes xs = AllZip (λ b x. IsNumbered b.0 b.1 x) bytes xs
 
 -- these bytes are a number
-abbrev pub IsNumber : List ℕ → Type 0
-IsNumber bytes = (n : ℕ) × Reads IsNum num_bytes bytes n
+abbrev pub AreNumberBytes : List ℕ → Type 0
+AreNumberBytes bytes = (n : ℕ) × Reads IsNum num_bytes bytes n
 
 -- table 11 with keys that begin so, by the numbers that follow
 abbrev pub marks_codec : List ℕ → Codec ℕ Mark

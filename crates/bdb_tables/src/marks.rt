@@ -11,7 +11,7 @@ ghost use Rattle.bdb_key.specs.Reading.{Reads};
 ghost use Rattle.bdb_key.specs.Rows.{IsAnyMark, mark_bytes};
 ghost use Rattle.bdb_tables.specs.Codec.{HasAt, IsEntryOf, IsRowOf, TableFits};
 ghost use Rattle.bdb_tables.specs.Grammar.{InGrammar};
-ghost use Rattle.bdb_tables.specs.GroupMarks.{AreChanges, AreMarks, AreNumbered, HasMark, SpellNumbered, HaveMarks, IsGroup, IsNumber, IsNumbered, marks_codec};
+ghost use Rattle.bdb_tables.specs.GroupMarks.{AreChanges, AreMarks, AreNumbered, HasMark, SpellNumbered, HaveMarks, IsGroup, AreNumberBytes, IsNumbered, marks_codec};
 ghost use Rattle.bdb_tables.specs.InUse.{val_codec};
 ghost use Rattle.bdb_tables.specs.Spans.{AreEntriesOf};
 ghost use Rattle.bdb_tables.specs.Writes.{IsChange, with_change, with_changes};
@@ -317,7 +317,7 @@ fn last_four(bytes: &[u8]) -> &[u8]
 
 // The number that these bytes are.
 fn number_from(bytes: &[u8]) -> u32
-    requires { IsNumber bytes.now }
+    requires { AreNumberBytes bytes.now }
     ensures { Reads IsNum num_bytes bytes.now result }
 {
     match only_num(bytes) {

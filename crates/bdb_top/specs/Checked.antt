@@ -33,7 +33,7 @@ IsVerdict t Damaged = AreDamaged t
 IsVerdict t (Format n) = HaveOtherFormat t n
 
 -- A verdict that holds of the tables is told by its status, and its line is written; but where the sink failed perhaps a front of the line alone.
-pub record IsTold (t : Tables) (old new : Option (List ℕ)) (status : ℕ) : Type 0 where
+pub record IsVerdictTold (t : Tables) (old new : Option (List ℕ)) (status : ℕ) : Type 0 where
   pub verdict : Verdict
   pub holds : IsVerdict t verdict
   pub whole : status ≢ 4 → (status ≡ verdict_status verdict) × Appends old new (verdict_line verdict)
@@ -42,5 +42,5 @@ pub record IsTold (t : Tables) (old new : Option (List ℕ)) (status : ℕ) : Ty
 -- How a check of tables ends: a verdict is told, but nothing where the keeper failed, with 5, or where memory ran out, with 6.
 pub record IsChecked (t : Tables) (old new : Option (List ℕ)) (status : ℕ) : Type 0 where
   pub statuses : (status ≡ 0) ⊎ ((status ≡ 4) ⊎ ((status ≡ 5) ⊎ ((status ≡ 6) ⊎ (status ≡ 7))))
-  pub told : status ≢ 5 → status ≢ 6 → IsTold t old new status
+  pub told : status ≢ 5 → status ≢ 6 → IsVerdictTold t old new status
   pub silent : (status ≡ 5) ⊎ (status ≡ 6) → Appends old new []

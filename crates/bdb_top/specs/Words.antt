@@ -26,8 +26,8 @@ abbrev pub most_digits : ℕ
 most_digits = 20
 
 -- the number below 2^64 that 1 to 20 digits spell
-abbrev pub number_of : List ℕ → Option ℕ
-number_of digits = cond (nat_lt 0 (length digits) && nat_le (length digits) most_digits) (number_behind 0 digits) None
+abbrev pub number_in_digits : List ℕ → Option ℕ
+number_in_digits digits = cond (nat_lt 0 (length digits) && nat_le (length digits) most_digits) (number_behind 0 digits) None
 
 -- the files that a job names: that of a base, and that of a script
 pub record Files : Type 0 where
@@ -81,8 +81,8 @@ generating _ _ = None
 -- the job of two options with their values: a seed and a size in any order
 abbrev pub generating_by : List ℕ → List ℕ → List ℕ → List ℕ → Option Job
 generating_by first a second b =
-    cond (same_text first (codes "--seed") && same_text second (codes "--size")) (generating (number_of a) (number_of b))
-    (cond (same_text first (codes "--size") && same_text second (codes "--seed")) (generating (number_of b) (number_of a)) None)
+    cond (same_text first (codes "--seed") && same_text second (codes "--size")) (generating (number_in_digits a) (number_in_digits b))
+    (cond (same_text first (codes "--size") && same_text second (codes "--seed")) (generating (number_in_digits b) (number_in_digits a)) None)
 
 -- the job of words that ask for a generated script
 abbrev pub gen_job : List (List ℕ) → Option Job

@@ -3,7 +3,7 @@ ghost use Rattle.std.specs.Prelude.{◌≡◌, ◌≤◌, [], ◌∷◌, IfOk, I
 ghost use Rattle.std.specs.Option.{option_copied};
 ghost use Rattle.bdb_base.specs.Same.{same_text};
 ghost use Rattle.bdb_base.specs.Limits.{most_generated};
-ghost use Rattle.bdb_top.specs.Words.{named_job, run_job, many_job, check_job, gen_job, files, files_with, files_by, files_of, both_files, generating, generating_by, is_value, number_behind, number_of};
+ghost use Rattle.bdb_top.specs.Words.{named_job, run_job, many_job, check_job, gen_job, files, files_with, files_by, files_of, both_files, generating, generating_by, is_value, number_behind, number_in_digits};
 ghost use Rattle.bdb_top.specs.declared.words.Job.TheVariants.{Run, Many, Check, Gen};
 
 use bdb_base::limits::MOST_GENERATED;
@@ -279,8 +279,8 @@ fn recipe_by(first: &Txt, a: &Txt, second: &Txt, b: &Txt) -> Option<Recipe>
 
 /// The recipe of a seed and a size.
 fn recipe_from(seed: &[u8], size: &[u8]) -> Option<Recipe>
-    ensures job { MatchOption result (generating (number_of seed.now) (number_of size.now) ≡ None)
-        (λ r. generating (number_of seed.now) (number_of size.now) ≡ Some (Gen r.seed r.size)) }
+    ensures job { MatchOption result (generating (number_in_digits seed.now) (number_in_digits size.now) ≡ None)
+        (λ r. generating (number_in_digits seed.now) (number_in_digits size.now) ≡ Some (Gen r.seed r.size)) }
     ensures size { IfSome result (λ r. r.size ≤ most_generated) }
 {
     match number_of(seed) {
@@ -302,7 +302,7 @@ fn recipe_from(seed: &[u8], size: &[u8]) -> Option<Recipe>
 
 /// The number that 1 to 20 digits spell, where it is below 2^64.
 fn number_of(digits: &[u8]) -> Option<u64>
-    ensures { result ≡ number_of digits.now }
+    ensures { result ≡ number_in_digits digits.now }
 {
     if digits.is_empty() || digits.len() > MOST_DIGITS {
         return None;

@@ -1,1 +1,2 @@
+-- words between crates, and for private loops and lemmas
 pub mod Failing

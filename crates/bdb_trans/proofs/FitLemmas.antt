@@ -29,7 +29,7 @@ use Rattle.bdb_base.proofs.UserLemmas.{list_all-filter_both}
 use Rattle.bdb_base.proofs.OptionLemmas.{some_of}
 use Rattle.bdb_plan.specs.declared.step.Step.{Step}
 use Rattle.bdb_plan.specs.declared.step.Step.TheVariants as step
-use Rattle.bdb_plan.specs.Fitness.{Placed, is_among, has_bound, was_bound, is_known, is_set, operand_is_set, who_is_set, is_walked, is_new, comes_next, is_whole, placed_if, with_user, with_walk, with_tuple, bound_count, with_all_bound, placed_after, placed_at_end, takes_set, fits_from, at_first}
+use Rattle.bdb_plan.specs.Fitness.{SetSoFar, is_among, has_bound, was_bound, is_known, is_set, operand_is_set, who_is_set, is_walked, is_new, comes_next, is_whole, placed_if, with_user, with_walk, with_tuple, bound_count, with_all_bound, placed_after, placed_at_end, takes_set, fits_from, at_first}
 use Rattle.bdb_plan.specs.PlanOf.{differ_from, walk_from, walk_of, bind_of, binds_from, operand_set, all_set, due, item_steps, steps_from, places, is_users, is_plus, is_minus_item, order_of}
 use Rattle.bdb_plan.specs.Sources.{source_of}
 use Rattle.bdb_trans.proofs.HoldLemmas.{there_in_order, both_there, set_after, comes_set}
@@ -38,31 +38,31 @@ use Rattle.bdb_trans.proofs.SourceLemmas.{move_on, here_at, joined_keeps, conds_
 
 -- ---- steps, one after the other
 
-pub placed_append : (n : ℕ) (w : ℕ → ℕ → Bool) (o : Option Placed) (xs ys : List Step) → placed_at_end n w o (xs ++ ys) ≡ placed_at_end n w (placed_at_end n w o xs) ys
+pub placed_append : (n : ℕ) (w : ℕ → ℕ → Bool) (o : Option SetSoFar) (xs ys : List Step) → placed_at_end n w o (xs ++ ys) ≡ placed_at_end n w (placed_at_end n w o xs) ys
 placed_append n w None xs ys = refl
 placed_append n w (Some p) [] ys = refl
 placed_append n w (Some p) (x ∷ xs) ys = placed_append n w (placed_after n w p x) xs ys
 
 -- steps lead from what is set to what is set
-abbrev Leads : ℕ → (ℕ → ℕ → Bool) → Placed → List Step → Placed → Type 0
+abbrev Leads : ℕ → (ℕ → ℕ → Bool) → SetSoFar → List Step → SetSoFar → Type 0
 Leads n w p xs p' = placed_at_end n w (Some p) xs ≡ Some p'
 
-leads_both : (n : ℕ) (w : ℕ → ℕ → Bool) (p p' p'' : Placed) (xs ys : List Step) → Leads n w p xs p' → Leads n w p' ys p'' → Leads n w p (xs ++ ys) p''
+leads_both : (n : ℕ) (w : ℕ → ℕ → Bool) (p p' p'' : SetSoFar) (xs ys : List Step) → Leads n w p xs p' → Leads n w p' ys p'' → Leads n w p (xs ++ ys) p''
 leads_both n w p p' p'' xs ys h g = placed_append n w (Some p) xs ys ∙ ap (λ o. placed_at_end n w o ys) h ∙ g
 
-leads_first : (n : ℕ) (w : ℕ → ℕ → Bool) (p p' p'' : Placed) (x : Step) (ys : List Step) → placed_after n w p x ≡ Some p' → Leads n w p' ys p'' → Leads n w p (x ∷ ys) p''
+leads_first : (n : ℕ) (w : ℕ → ℕ → Bool) (p p' p'' : SetSoFar) (x : Step) (ys : List Step) → placed_after n w p x ≡ Some p' → Leads n w p' ys p'' → Leads n w p (x ∷ ys) p''
 leads_first n w p p' p'' x ys h g = ap (λ o. placed_at_end n w o ys) h ∙ g
 
-if_so : (t : Bool) (p : Placed) → t ≡ true → placed_if t p ≡ Some p
+if_so : (t : Bool) (p : SetSoFar) → t ≡ true → placed_if t p ≡ Some p
 if_so t p h = ap (λ b. placed_if b p) h
 
 -- one step that holds where a test does
-leads_one : (n : ℕ) (w : ℕ → ℕ → Bool) (p p' : Placed) (x : Step) (t : Bool) → placed_after n w p x ≡ placed_if t p' → t ≡ true → Leads n w p (x ∷ []) p'
+leads_one : (n : ℕ) (w : ℕ → ℕ → Bool) (p p' : SetSoFar) (x : Step) (t : Bool) → placed_after n w p x ≡ placed_if t p' → t ≡ true → Leads n w p (x ∷ []) p'
 leads_one n w p p' x t e h = ap (λ o. placed_at_end n w o []) (e ∙ if_so t p' h)
 
 -- ---- walks
 
-differs : (n : ℕ) (w : ℕ → ℕ → Bool) (p : Placed) (item : ℕ) (before : Option Who) (who : Who) → is_walked p.walk item ≡ true → ((b : Who) → before ≡ Some b → who_is_set p b ≡ true) → who_is_set p who ≡ true
+differs : (n : ℕ) (w : ℕ → ℕ → Bool) (p : SetSoFar) (item : ℕ) (before : Option Who) (who : Who) → is_walked p.walk item ≡ true → ((b : Who) → before ≡ Some b → who_is_set p b ≡ true) → who_is_set p who ≡ true
     → Leads n w p (differ_from item before who) p
 differs n w p item None who m h g = refl
 differs n w p item (Some (User i)) (User j) m h g = refl
@@ -72,7 +72,7 @@ differs n w p item (Some (Of k)) who m h g =
     leads_one n w p p (step.Differ item (Of k) who) (is_walked p.walk item && (is_among p.users k && who_is_set p who)) refl
     (and_from (is_walked p.walk item) (is_among p.users k && who_is_set p who) m (and_from (is_among p.users k) (who_is_set p who) (h (Of k) refl) g))
 
-walks : (n : ℕ) (w : ℕ → ℕ → Bool) (p : Placed) (item : ℕ) (before : Option Who) (path : List Who) → is_walked p.walk item ≡ true → ((b : Who) → before ≡ Some b → who_is_set p b ≡ true) → list_all (who_is_set p) path ≡ true
+walks : (n : ℕ) (w : ℕ → ℕ → Bool) (p : SetSoFar) (item : ℕ) (before : Option Who) (path : List Who) → is_walked p.walk item ≡ true → ((b : Who) → before ≡ Some b → who_is_set p b ≡ true) → list_all (who_is_set p) path ≡ true
     → Leads n w p (walk_from item before path) p
 walks n w p item before [] m h g = refl
 walks n w p item before (who ∷ whos) m h g =
@@ -83,14 +83,14 @@ walks n w p item before (who ∷ whos) m h g =
 
 -- ---- tests
 
-tests_lead : (n : ℕ) (w : ℕ → ℕ → Bool) (p : Placed) (cs : List Cond) → list_all (λ c. is_set p c.left && operand_is_set p c.right) cs ≡ true → Leads n w p (map step.Test cs) p
+tests_lead : (n : ℕ) (w : ℕ → ℕ → Bool) (p : SetSoFar) (cs : List Cond) → list_all (λ c. is_set p c.left && operand_is_set p c.right) cs ≡ true → Leads n w p (map step.Test cs) p
 tests_lead n w p [] h = refl
 tests_lead n w p (c ∷ cs) h =
     let k = and_parts (is_set p c.left && operand_is_set p c.right) (list_all (λ c. is_set p c.left && operand_is_set p c.right) cs) h in
     leads_first n w p p p (step.Test c) (map step.Test cs) (if_so (is_set p c.left && operand_is_set p c.right) p k.0) (tests_lead n w p cs k.1)
 
 -- the tests that are due use what is set, where each column of an item that is there is so
-due_set : (rels : List RelDef) (q : Query) (set : List ℕ) (at : ℕ) (p : Placed) → list_all (joins_one_kind rels q.items) q.conds ≡ true
+due_set : (rels : List RelDef) (q : Query) (set : List ℕ) (at : ℕ) (p : SetSoFar) → list_all (joins_one_kind rels q.items) q.conds ≡ true
     → ((r : Ref) → is_among (at ∷ set) r.item ≡ true → is_some (column_kind rels q.items r) ≡ true → is_set p r ≡ true) → list_all (λ c. is_set p c.left && operand_is_set p c.right) (due set at q.conds) ≡ true
 due_set rels q set at p f h = list_all-filter_both (joins_one_kind rels q.items) (λ c. all_set (at ∷ set) c && not (all_set set c)) (λ c. is_set p c.left && operand_is_set p c.right) one q.conds f
   where
@@ -109,7 +109,7 @@ due_set rels q set at p f h = list_all-filter_both (joins_one_kind rels q.items)
 itself : (at : ℕ) → nat_eq at at ≡ true
 itself at = (Decides-eqb at at).1 refl
 
-walk_leads : (n : ℕ) (w : ℕ → ℕ → Bool) (p : Placed) (item : ℕ) (path : List Who) → item < n → list_all (who_is_set (with_walk p item)) path ≡ true
+walk_leads : (n : ℕ) (w : ℕ → ℕ → Bool) (p : SetSoFar) (item : ℕ) (path : List Who) → item < n → list_all (who_is_set (with_walk p item)) path ≡ true
     → Leads n w p (walk_of item path) (with_walk p item)
 walk_leads n w before item path within g =
     let p = with_walk before item in
@@ -160,7 +160,7 @@ denied_of rels q [] = []
 denied_of rels q (at ∷ set) = denied_more rels at (slice_get q.items at) (denied_of rels q set)
 
 -- what is set once the steps of items are done
-abbrev placed : List RelDef → Query → List ℕ → Option (ℕ × ℕ) → Option ℕ → Placed
+abbrev placed : List RelDef → Query → List ℕ → Option (ℕ × ℕ) → Option ℕ → SetSoFar
 placed rels q set o walk = record { users = chosen q set; items = set; denied = denied_of rels q set; bound = o; walk = walk }
 
 column_within : (rels : List RelDef) (items : List Item) (r : Ref) (alias : List ℕ) (rel : ℕ) (path : List Who) → slice_get items r.item ≡ Some (Rel alias rel Minus path) → is_some (column_kind rels items r) ≡ true
@@ -282,7 +282,7 @@ bind_leads n w rels q fit set o walk at col given next has =
     subst (λ x. Leads n w p (bind_of r x) end) (sym src.1)
     (leads_one n w p end (step.Bind at col src.0) (operand_is_set p src.0 && comes_next n p o at col) refl (and_from (operand_is_set p src.0) (comes_next n p o at col) set_there next))
 
-bound_next : (n : ℕ) (p : Placed) (at col : ℕ) → comes_next n p (Some (at, col)) at col ≡ true
+bound_next : (n : ℕ) (p : SetSoFar) (at col : ℕ) → comes_next n p (Some (at, col)) at col ≡ true
 bound_next n p at col = and_from (nat_eq at at) (nat_eq col col) (itself at) (itself col)
 
 first_source : (rels : List RelDef) (q : Query) (at col : ℕ) → HasSource rels q (record { item = at; col = col + zero }) → HasSource rels q (record { item = at; col = col })
@@ -371,7 +371,7 @@ none_chosen : (q : Query) (set : List ℕ) (at : ℕ) (alias : List ℕ) (rel : 
 none_chosen q set at alias rel sign path e = sym (filter_dropped_one (is_user_at q) at set (ap is_users_item e))
 
 -- what is set, from its parts
-abbrev made : List ℕ → List ℕ → List (ℕ × ℕ) → Option ℕ → Placed
+abbrev made : List ℕ → List ℕ → List (ℕ × ℕ) → Option ℕ → SetSoFar
 made users items denied walk = record { users = users; items = items; denied = denied; bound = None; walk = walk }
 
 same_made : (users users' items : List ℕ) (denied denied' : List (ℕ × ℕ)) (walk : Option ℕ) → users ≡ users' → denied ≡ denied' → made users items denied walk ≡ made users' items denied' walk

@@ -26,7 +26,7 @@ use Rattle.bdb_plan.specs.declared.step.Step.TheVariants as step
 use Rattle.bdb_plan.specs.PlanOf.{differ_from, walk_from, setting, denying, due, item_steps}
 use Rattle.bdb_plan.specs.Sources.{renamed, renamed_by, stands_for, joined, pins_chain, given_columns, source_of}
 use Rattle.bdb_trans.specs.Steps.{is_due, due_step}
-use Rattle.bdb_trans.specs.Names.{can_number_columns, named, AreNames, TakesIn, has_name, pins_name, source_by_names}
+use Rattle.bdb_trans.specs.Names.{can_number_columns, named, NameColumns, TakesIn, has_name, pins_name, source_by_names}
 
 -- one more user of a path
 pub walk_turn : (item : ℕ) (before : Option Who) (path : List Who) (i : ℕ) (who : Who) → i < length path → who ≡ get_or path i who
@@ -68,7 +68,7 @@ pub columns_are_numbered : (catalog : Catalog) (q : Query) → query_fits catalo
 columns_are_numbered catalog q h = (and_parts (list_all can_number_columns catalog.rels) _ (and_parts (nat_lt (length q.items) (2 ^ 32)) _ h).1).0
 
 -- a source by names is the column's source
-pub source_is_named : (rels : List RelDef) (q : Query) (names : List (Ref × Ref)) (given : List Ref) (r : Ref) → AreNames q.conds names → given ≡ given_columns rels 0 q.items
+pub source_is_named : (rels : List RelDef) (q : Query) (names : List (Ref × Ref)) (given : List Ref) (r : Ref) → NameColumns q.conds names → given ≡ given_columns rels 0 q.items
     → source_by_names q.conds names given r ≡ source_of rels q r
 source_is_named rels q names given r h g =
     ap (λ a. first_there (option_map (λ c. c.right) a) (option_map Col (find (has_name names (named names r)) given))) (find_same (pins_name names (named names r)) (pins_chain q.conds r) pins q.conds)
@@ -121,14 +121,14 @@ not_taken c old k cs h r = h r ∙ by c.cmp c.right (λ y e o. k y e o)
     by Ge o k = refl
 
 -- one more comparison from the end
-pub names_go_on : (conds : List Cond) (i at : ℕ) (c : Cond) (old new : List (Ref × Ref)) → i < length conds → at ≡ i + 1 → c ≡ get_or conds i c → AreNames (drop at conds) old → TakesIn c old new → AreNames (drop i conds) new
+pub names_go_on : (conds : List Cond) (i at : ℕ) (c : Cond) (old new : List (Ref × Ref)) → i < length conds → at ≡ i + 1 → c ≡ get_or conds i c → NameColumns (drop at conds) old → TakesIn c old new → NameColumns (drop i conds) new
 names_go_on conds i at c old new lt e is h t =
-    let rest : AreNames (drop (i + 1) conds) old = subst (λ k. AreNames (drop k conds) old) e h in
+    let rest : NameColumns (drop (i + 1) conds) old = subst (λ k. NameColumns (drop k conds) old) e h in
     let front : c ∷ drop (i + 1) conds ≡ drop i conds = ap (λ x. x ∷ drop (i + 1) conds) is ∙ sym (drop_more conds i c lt) in
-    subst (λ xs. AreNames xs new) front (t (drop (i + 1) conds) rest)
+    subst (λ xs. NameColumns xs new) front (t (drop (i + 1) conds) rest)
 
-pub no_names : (conds : List Cond) (at : ℕ) → length conds ≤ at → AreNames (drop at conds) []
-no_names conds at le = subst (λ xs. AreNames xs []) (sym (drop_all conds at le)) (λ r. refl)
+pub no_names : (conds : List Cond) (at : ℕ) → length conds ≤ at → NameColumns (drop at conds) []
+no_names conds at le = subst (λ xs. NameColumns xs []) (sym (drop_all conds at le)) (λ r. refl)
   where
     drop_all : (xs : List Cond) (n : ℕ) → length xs ≤ n → drop n xs ≡ []
     drop_all [] zero h = refl

@@ -1,5 +1,7 @@
+-- what other public promises and laws are made of
 pub mod Bounds
+pub mod TransLaws
+-- words between crates, and for private loops and lemmas
 pub mod Names
 pub mod Steps
-pub mod TransLaws
 pub mod Turns

@@ -17,12 +17,12 @@ named [] r = r
 named (x ∷ xs) r = named xs (renamed x.0 x.1 r)
 
 -- each column has the name of the one that stands for it
-abbrev pub AreNames : List Cond → List (Ref × Ref) → Type 0
-AreNames conds names = (r : Ref) → named names r ≡ stands_for conds r
+abbrev pub NameColumns : List Cond → List (Ref × Ref) → Type 0
+NameColumns conds names = (r : Ref) → named names r ≡ stands_for conds r
 
 -- with one more comparison in front
 abbrev pub TakesIn : Cond → List (Ref × Ref) → List (Ref × Ref) → Type 0
-TakesIn c old new = (cs : List Cond) → AreNames cs old → AreNames (c ∷ cs) new
+TakesIn c old new = (cs : List Cond) → NameColumns cs old → NameColumns (c ∷ cs) new
 
 -- a column has a name
 abbrev pub has_name : List (Ref × Ref) → Ref → Ref → Bool

@@ -4,7 +4,7 @@ ghost use Rattle.std.specs.List.{flat_map, list_all, slice_get};
 ghost use Rattle.bdb_plan.specs.Fitness.{is_among};
 ghost use Rattle.bdb_plan.specs.PlanOf.{all_set, binds_from, denying, item_steps, operand_set, setting, steps_from};
 ghost use Rattle.bdb_plan.specs.Sources.{given_columns};
-ghost use Rattle.bdb_trans.specs.Names.{AreNames, can_number_columns};
+ghost use Rattle.bdb_trans.specs.Names.{NameColumns, can_number_columns};
 ghost use Rattle.bdb_trans.specs.Steps.{bind_steps, due_step, is_due};
 
 use crate::sources::{columns_at, source_by_names};
@@ -32,7 +32,7 @@ pub fn append_steps(
     order: &[u32],
 ) -> Result<(), AllocError>
     requires relations { list_all can_number_columns scope.now.rels.now ≡ true }
-    requires names { AreNames scope.now.query.now.conds scope.now.names.now }
+    requires names { NameColumns scope.now.query.now.conds scope.now.names.now }
     requires given { scope.now.given.now
         ≡ given_columns scope.now.rels.now 0 scope.now.query.now.items }
     ensures { OnOk result
@@ -59,7 +59,7 @@ fn append_place(
     at: u32,
 ) -> Result<(), AllocError>
     requires relations { list_all can_number_columns scope.now.rels.now ≡ true }
-    requires names { AreNames scope.now.query.now.conds scope.now.names.now }
+    requires names { NameColumns scope.now.query.now.conds scope.now.names.now }
     requires given { scope.now.given.now
         ≡ given_columns scope.now.rels.now 0 scope.now.query.now.items }
     ensures { OnOk result
@@ -89,7 +89,7 @@ fn append_item(
     item: &Item,
 ) -> Result<(), AllocError>
     requires relations { list_all can_number_columns scope.now.rels.now ≡ true }
-    requires names { AreNames scope.now.query.now.conds scope.now.names.now }
+    requires names { NameColumns scope.now.query.now.conds scope.now.names.now }
     requires given { scope.now.given.now
         ≡ given_columns scope.now.rels.now 0 scope.now.query.now.items }
     ensures { OnOk result
@@ -111,7 +111,7 @@ fn append_setting(
     item: &Item,
 ) -> Result<(), AllocError>
     requires relations { list_all can_number_columns scope.now.rels.now ≡ true }
-    requires names { AreNames scope.now.query.now.conds scope.now.names.now }
+    requires names { NameColumns scope.now.query.now.conds scope.now.names.now }
     requires given { scope.now.given.now
         ≡ given_columns scope.now.rels.now 0 scope.now.query.now.items }
     ensures { OnOk result
@@ -154,7 +154,7 @@ fn append_binds(
     col: u32,
     cols: &[ColDef],
 ) -> Result<(), AllocError>
-    requires names { AreNames scope.now.query.now.conds scope.now.names.now }
+    requires names { NameColumns scope.now.query.now.conds scope.now.names.now }
     requires given { scope.now.given.now
         ≡ given_columns scope.now.rels.now 0 scope.now.query.now.items }
     requires few { col + length cols.now < 2 ^ 32 }
@@ -180,7 +180,7 @@ fn append_bind(
     steps: &mut List<Step>,
     column: Ref,
 ) -> Result<(), AllocError>
-    requires names { AreNames scope.now.query.now.conds scope.now.names.now }
+    requires names { NameColumns scope.now.query.now.conds scope.now.names.now }
     requires given { scope.now.given.now
         ≡ given_columns scope.now.rels.now 0 scope.now.query.now.items }
     ensures { OnOk result

@@ -2,7 +2,7 @@
 ghost use Rattle.std.specs.Prelude.{◌≡◌, IfOk, OnOk};
 ghost use Rattle.bdb_base.specs.Safety.{same_column};
 ghost use Rattle.bdb_plan.specs.Sources.{renamed};
-ghost use Rattle.bdb_trans.specs.Names.{named, AreNames, TakesIn};
+ghost use Rattle.bdb_trans.specs.Names.{named, NameColumns, TakesIn};
 
 use bdb_base::{Cmp, Cond, Operand, Ref};
 use std::alloc::{AllocError, Global};
@@ -10,7 +10,7 @@ use std::alloc::{AllocError, Global};
 #[tactic(auto, using(crate::proofs::TurnLemmas::names_go_on, crate::proofs::TurnLemmas::no_names))]
 /// Which name of a column gives way to which other, the first renaming first.
 pub fn renames_of(alloc: Global, conds: &[Cond]) -> Result<Vec<(Ref, Ref)>, AllocError>
-    ensures { IfOk result (λ names. AreNames conds.now names.items) }
+    ensures { IfOk result (λ names. NameColumns conds.now names.items) }
 {
     let mut names = Vec::new(alloc);
     let mut at = conds.len();

@@ -9,7 +9,7 @@ use Rattle.bdb_undo.specs.Changes.{Leads, changed_forth, changed_back, alters}
 use Rattle.bdb_undo.specs.Histories.{Kept, noted, stepped_back, stepped_forth}
 use Rattle.bdb_undo.specs.Limits.{most_changes}
 use Rattle.bdb_undo.specs.Same.{same_contents}
-use Rattle.bdb_undo.specs.Timelines.{Timeline, LeadHere, LeadAhead, StandsFor, moved_to, undone_by, redone_by}
+use Rattle.bdb_undo.specs.Timelines.{Timeline, LeadHere, LeadAhead, KeepsTimeline, moved_to, undone_by, redone_by}
 use Rattle.bdb_undo.specs.TimelineLaws.{BasesAreDetermined, ChangesAreDetermined, ChangesAreCounted, NothingKeptStarts, NoteMoves, StayingArrives, BasesMove, ArrivesThere, NoteArrives, BackUndoes, ForthRedoes, LastLeadsHere, ComingLeadsAhead, NothingToUndo, NothingToRedo}
 use Rattle.bdb_undo.proofs.ChangeLemmas.{back_gives_the_base_before, forth_gives_the_base_after, changes_are_one, same_base_alters_nothing}
 use Rattle.bdb_undo.proofs.SameLemmas.{same_contents_are_one, contents_are_their_own}
@@ -55,7 +55,7 @@ ahead_by (c ∷ cs) b (a ∷ ahead) l =
 abbrev timeline : List Contents → Contents → List Contents → Timeline
 timeline before now ahead = record { before = before; now = now; ahead = ahead }
 
-bases_are_computed : (h : Kept) (t : Timeline) → StandsFor h t → t ≡ timeline_of h t.now
+bases_are_computed : (h : Kept) (t : Timeline) → KeepsTimeline h t → t ≡ timeline_of h t.now
 bases_are_computed h t s =
     ap (λ ws. timeline ws t.now t.ahead) (here_by h.undos t.now t.before s.undos)
     ∙ ap (timeline (bases_before h.undos t.now) t.now) (ahead_by h.redos t.now t.ahead s.redos)
@@ -150,26 +150,26 @@ leads_apart c a b l h e =
     false≢true (sym (same_base_alters_nothing c b (subst (λ (w : Contents). Leads c w b) e l)) ∙ h)
 
 pub note_arrives : NoteArrives
-note_arrives h t c b s l k = subst (StandsFor (noted c h)) (sym (bases_move t b (leads_apart c t.now b l k))) (note_moves h t c b s l)
+note_arrives h t c b s l k = subst (KeepsTimeline (noted c h)) (sym (bases_move t b (leads_apart c t.now b l k))) (note_moves h t c b s l)
 
 -- ---- what a step back and a step forth keep
 
 back_by : (us rs : List Change) (before : List Contents) (b : Contents) (ahead : List Contents) (u : Timeline)
-    → LeadHere us b before → LeadAhead rs b ahead → undone_by before b ahead ≡ Some u → StandsFor (stepped_back (kept us rs)) u
+    → LeadHere us b before → LeadAhead rs b ahead → undone_by before b ahead ≡ Some u → KeepsTimeline (stepped_back (kept us rs)) u
 back_by us rs [] b ahead u l m e = absurd (none_is_some u e)
 back_by [] rs (a ∷ before) b ahead u l m e = absurd l
 back_by (c ∷ us) rs (a ∷ before) b ahead u l m e =
-    subst (StandsFor (kept us (c ∷ rs))) (some_is (timeline before a (b ∷ ahead)) u e) (record { undos = l.1; redos = (l.0, m) })
+    subst (KeepsTimeline (kept us (c ∷ rs))) (some_is (timeline before a (b ∷ ahead)) u e) (record { undos = l.1; redos = (l.0, m) })
 
 pub back_undoes : BackUndoes
 back_undoes h t u s e = back_by h.undos h.redos t.before t.now t.ahead u s.undos s.redos e
 
 forth_by : (us rs : List Change) (before : List Contents) (b : Contents) (ahead : List Contents) (u : Timeline)
-    → LeadHere us b before → LeadAhead rs b ahead → redone_by before b ahead ≡ Some u → StandsFor (stepped_forth (kept us rs)) u
+    → LeadHere us b before → LeadAhead rs b ahead → redone_by before b ahead ≡ Some u → KeepsTimeline (stepped_forth (kept us rs)) u
 forth_by us rs before b [] u l m e = absurd (none_is_some u e)
 forth_by us [] before b (a ∷ ahead) u l m e = absurd m
 forth_by us (c ∷ rs) before b (a ∷ ahead) u l m e =
-    subst (StandsFor (kept (c ∷ us) rs)) (some_is (timeline (b ∷ before) a ahead) u e) (record { undos = (m.0, l); redos = m.1 })
+    subst (KeepsTimeline (kept (c ∷ us) rs)) (some_is (timeline (b ∷ before) a ahead) u e) (record { undos = (m.0, l); redos = m.1 })
 
 pub forth_redoes : ForthRedoes
 forth_redoes h t u s e = forth_by h.undos h.redos t.before t.now t.ahead u s.undos s.redos e

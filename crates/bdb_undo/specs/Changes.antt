@@ -55,8 +55,8 @@ pub record Leads (c : Change) (a b : Contents) : Type 0 where
   pub come : c.come ≡ missing_from a.stmts b.stmts
 
 -- there is a base from which a change leads to this one
-abbrev pub LeadsTo : Change → Contents → Type 0
-LeadsTo c b = (a : Contents) × Leads c a b
+abbrev pub CanLeadTo : Change → Contents → Type 0
+CanLeadTo c b = (a : Contents) × Leads c a b
 
 -- there is a base to which a change leads from this one
 abbrev pub LeadsFrom : Change → Contents → Type 0

@@ -56,6 +56,6 @@ LeadAhead (c ∷ cs) b (a ∷ ahead) = Leads c b a × LeadAhead cs a ahead
 LeadAhead _ _ _ = ⊥
 
 -- the changes that a history keeps stand for the bases to which undo and redo lead
-pub record StandsFor (h : Kept) (t : Timeline) : Type 0 where
+pub record KeepsTimeline (h : Kept) (t : Timeline) : Type 0 where
   pub undos : LeadHere h.undos t.now t.before
   pub redos : LeadAhead h.redos t.now t.ahead

@@ -4,7 +4,7 @@ ghost use Rattle.bdb_base.specs.Bases.{Contents, IsValid};
 ghost use Rattle.bdb_base.specs.Changes.{with_statements, without_statements};
 ghost use Rattle.bdb_base.specs.Order.{statement_cmp};
 ghost use Rattle.bdb_base.specs.SortedSet.{ascending};
-ghost use Rattle.bdb_undo.specs.Changes.{CanName, Leads, LeadsTo, LeadsFrom, named_back, named_forth};
+ghost use Rattle.bdb_undo.specs.Changes.{CanName, Leads, CanLeadTo, LeadsFrom, named_back, named_forth};
 
 use crate::change::{Change, Named};
 use bdb_base::{Base, Exact, Stmt};
@@ -15,7 +15,7 @@ use std::alloc::{AllocError, Global};
 /// back; so each base between is valid. The only error is running out of memory, after which nothing is said of the base but
 /// that it is valid, by the invariant of `Base`.
 pub fn change_back(alloc: Global, base: &mut Base, change: &Change) -> Result<(), AllocError>
-    requires { LeadsTo change.now base.old }
+    requires { CanLeadTo change.now base.old }
     ensures { (a : Contents) → Leads change.now a base.old → OnOk result (base.new ≡ a) }
 {
     take_each(base, change.come.as_slice());

@@ -7,7 +7,7 @@ use Rattle.bdb_keep.specs.Tables.{Tables}
 use Rattle.bdb_tables.specs.Differences.{AreDifferences}
 use Rattle.bdb_val.specs.Others.{SamePlacesBut, is_in}
 use Rattle.bdb_worlds.specs.Bounds.{EndsWithin}
-use Rattle.bdb_update.specs.Bounds.{WritesWithin, StateWrites, RowWrites, is_of_states, part_at}
+use Rattle.bdb_update.specs.Bounds.{WritesWithinMore, StateWrites, RowWrites, is_of_states, part_at}
 use Rattle.bdb_update.specs.Joining.{is_of_tuples}
 use Rattle.bdb_update.specs.Tallies.{HasRowCount, vals_at}
 use Rattle.bdb_update.proofs.BetweenLemmas.{IsLost, are_between, differences_like, few_after, few_before, more_rows, part_differences, part_same, row_differences, two_parts, vals_same}
@@ -48,7 +48,7 @@ module _ (d rows : ℕ) (old a b new : Seen) (first : StateWrites (d + 2) rows o
     (tuples : SamePlacesBut is_of_tuples a.kept b.kept) (alone : SamePlacesBut rows_alone b.kept new.kept) (later : a.writes ≤ b.writes) (last : b.writes ≤ new.writes) (n m z : ℕ)
     (n_rows : HasRowCount old.kept n) (m_rows : HasRowCount a.kept m) (z_rows : HasRowCount new.kept z) (came : m ≡ n + rows)
     (one : (p q : List ℕ) → IsLost (vals_at old.kept) (vals_at a.kept) (vals_at new.kept) p → IsLost (vals_at old.kept) (vals_at a.kept) (vals_at new.kept) q → p ≡ q) where
-  pub adds_within : WritesWithin (d + 2) 8 old new
+  pub adds_within : WritesWithinMore (d + 2) 8 old new
   adds_within ps diff small =
       let states = filter is_of_states ps in
       let rows_all = filter (is_in rows_alone) ps in
@@ -76,7 +76,7 @@ module _ (d rows : ℕ) (old a b new : Seen) (first : RowWrites 2 old a) (second
     (alone : SamePlacesBut rows_alone old.kept a.kept) (tuples : SamePlacesBut is_of_tuples b.kept new.kept) (later : a.writes ≤ b.writes) (last : b.writes ≤ new.writes) (n m z : ℕ)
     (n_rows : HasRowCount old.kept n) (m_rows : HasRowCount a.kept m) (z_rows : HasRowCount b.kept z) (went : m ≡ z + rows)
     (one : (p q : List ℕ) → IsLost (vals_at old.kept) (vals_at a.kept) (vals_at b.kept) p → IsLost (vals_at old.kept) (vals_at a.kept) (vals_at b.kept) q → p ≡ q) where
-  pub drops_within : WritesWithin (d + 2) 8 old new
+  pub drops_within : WritesWithinMore (d + 2) 8 old new
   drops_within ps diff small =
       let states = filter is_of_states ps in
       let rows_all = filter (is_in rows_alone) ps in

@@ -11,7 +11,7 @@ use Rattle.bdb_tables.specs.Rows.{row_for}
 use Rattle.bdb_tables.specs.Stored.{SameBut}
 use Rattle.bdb_val.specs.Others.{SamePlacesBut}
 use Rattle.bdb_worlds.specs.Bounds.{EndsWithin}
-use Rattle.bdb_update.specs.Bounds.{RowWrites, StateWrites, WritesWithin}
+use Rattle.bdb_update.specs.Bounds.{RowWrites, StateWrites, WritesWithinMore}
 use Rattle.bdb_update.specs.Keeping.{KeepsNames, KeepsTuples}
 use Rattle.bdb_update.specs.Calls.{with_one, without_one}
 use Rattle.bdb_update.specs.ChangeLaws.{is_of_worlds}
@@ -36,7 +36,7 @@ module _ (old a b new : Seen) (x : Stmt) (worlds wid rows : ℕ) (some : SomeMay
     (first : StateWrites (length x.path + 2) rows old a)
     (numbers : Numbers a.kept b.kept x) (keeps : KeepsTuples a.kept b.kept) (second : EndsWithin 2 a.writes b.writes) (tuples : SamePlacesBut is_of_tuples a.kept b.kept)
     (settles : Settles b.kept new.kept x) (third : RowWrites 2 b new) (alone : SamePlacesBut rows_alone b.kept new.kept) (later : a.writes ≤ b.writes) (last : b.writes ≤ new.writes) where
-  pub join_within : WritesWithin (length x.path + 2) 8 old new
+  pub join_within : WritesWithinMore (length x.path + 2) 8 old new
   join_within =
       let c = some.base in
       let s = some.stored in
@@ -58,7 +58,7 @@ module _ (old a b new : Seen) (x : Stmt) (rows : ℕ) (some : SomeMayPart old.ke
     (loses : LosesWorlds a.kept b.kept x) (went : LosesRows a.kept b.kept rows) (names : KeepsNames b.kept a.kept) (of_worlds : SameBut is_of_worlds a.kept b.kept)
     (second : StateWrites (length x.path + 2) rows a b)
     (third : EndsWithin 2 b.writes new.writes) (tuples : SamePlacesBut is_of_tuples b.kept new.kept) (later : a.writes ≤ b.writes) (last : b.writes ≤ new.writes) where
-  pub leave_within : WritesWithin (length x.path + 2) 8 old new
+  pub leave_within : WritesWithinMore (length x.path + 2) 8 old new
   leave_within =
       let c = some.base in
       let s = some.stored in

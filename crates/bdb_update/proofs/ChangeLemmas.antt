@@ -27,12 +27,12 @@ use Rattle.bdb_val.specs.Groups.{IsUnsettled, is_near}
 use Rattle.bdb_val.specs.Middle.{worlds_of, IsSettledAt}
 use Rattle.bdb_val.specs.Reads.{HasRows, is_of_group}
 use Rattle.bdb_val.specs.Settled.{HasStates, settled_mark, sign_at}
-use Rattle.bdb_val.specs.Settling.{AreNumbered, row_key}
+use Rattle.bdb_val.specs.Settling.{HaveTupleNumbers, row_key}
 use Rattle.bdb_val.proofs.HeldLemmas.{names_are_linked, explicit_mark, right_row, held_names}
 use Rattle.bdb_val.proofs.NextMarks.{settled_alike}
 use Rattle.bdb_val.proofs.ReadLemmas.{key_fits}
 use Rattle.bdb_val.proofs.SettledLemmas.{right_rows_are_settled}
-use Rattle.bdb_update.specs.Differing.{is_like, DifferAt, explicit_row, said_at}
+use Rattle.bdb_update.specs.Differing.{is_like, DifferAt, explicit_row, row_said_at}
 
 row_sign : (o : Option Sign) → explicit_of (explicit_row o) ≡ o
 row_sign None = refl
@@ -44,7 +44,7 @@ row_fits (Some s) = tt
 
 module _ (keys : ℕ → ℕ) (stmts next told : List Stmt) (users : ℕ → Bool) (ns : Names) (ts : Tuples) (t : Tables) (w : List ℕ) (u : Tuple) (wid tid : ℕ)
     (lengths : AreKeyLengths keys) (states : HoldsStates users ns t) (tuples : HoldsTuples told ts t) (rows : HoldsRows keys stmts (path_of ns) ts.tuple t)
-    (has : HasStates stmts (is_named ns)) (more : HasStates next (is_named ns)) (numbered : AreNumbered ts.tuple next)
+    (has : HasStates stmts (is_named ns)) (more : HasStates next (is_named ns)) (numbered : HaveTupleNumbers ts.tuple next)
     (c : IsConsistent keys stmts) (d : IsConsistent keys next) (differ : DifferAt keys stmts next w u)
     (path : path_of ns wid ≡ Some w) (name : ts.tuple tid ≡ Some u) where
   abbrev pub held : ValKey → Option Mark
@@ -58,10 +58,10 @@ module _ (keys : ℕ → ℕ) (stmts next told : List Stmt) (users : ℕ → Boo
 
   -- the rows after the change
   abbrev pub changed : ValKey → Option Mark
-  changed = with_row_at val_codec held (said_at keys next w wid tid u)
+  changed = with_row_at val_codec held (row_said_at keys next w wid tid u)
 
   abbrev pub after : Tables
-  after = with_change val_codec t (said_at keys next w wid tid u)
+  after = with_change val_codec t (row_said_at keys next w wid tid u)
 
   world_num : (m : ℕ) (v : List ℕ) → path_of ns m ≡ Some v → IsNum m
   world_num m v p = states.names.sized v m (states.names.named m v p)
@@ -102,8 +102,8 @@ module _ (keys : ℕ → ℕ) (stmts next told : List Stmt) (users : ℕ → Boo
   changed_rows : HasRows keys ts.tuple changed after
   changed_rows = record {
     lengths = lengths;
-    tuples = change_elsewhere tuple_codec val_codec (λ e. cc) t ts.tuple (said_at keys next w wid tid u) tuples.tuples;
-    rows = change_gives val_codec vals_in_order t held (said_at keys next w wid tid u) (record { key = key_is; row = row_fits said }) rows;
+    tuples = change_elsewhere tuple_codec val_codec (λ e. cc) t ts.tuple (row_said_at keys next w wid tid u) tuples.tuples;
+    rows = change_gives val_codec vals_in_order t held (row_said_at keys next w wid tid u) (record { key = key_is; row = row_fits said }) rows;
     sized = tuples.sized;
     keyed = λ q v s. elim (cases_Bool (is_eq (val_codec.key_cmp q key))) as (λ _. (y : Tuple) × (ts.tuple q.3 ≡ Some y) × (row_key keys q.0 q.3 y ≡ q)) [
       | inl e ↦ subst (λ (z : ValKey). (y : Tuple) × (ts.tuple z.3 ≡ Some y) × (row_key keys z.0 z.3 y ≡ z)) (sym (here q v e)) (u, name, refl)
@@ -197,8 +197,8 @@ module _ (keys : ℕ → ℕ) (stmts next told : List Stmt) (users : ℕ → Boo
     names = states.names;
     states = more;
     links = record {
-      link = change_elsewhere link_codec val_codec (λ e. cc) t (link_of ns) (said_at keys next w wid tid u) states.tables.link;
-      linked = change_elsewhere linked_codec val_codec (λ e. cc) t _ (said_at keys next w wid tid u) states.tables.linked;
+      link = change_elsewhere link_codec val_codec (λ e. cc) t (link_of ns) (row_said_at keys next w wid tid u) states.tables.link;
+      linked = change_elsewhere linked_codec val_codec (λ e. cc) t _ (row_said_at keys next w wid tid u) states.tables.linked;
     };
     explicit = record {
       rows = changed_rows;

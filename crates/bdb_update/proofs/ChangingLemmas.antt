@@ -16,7 +16,7 @@ use Rattle.bdb_keep.specs.Tables.{Tables}
 use Rattle.bdb_tables.specs.declared.tab.TabError.{TabError}
 use Rattle.bdb_tables.specs.declared.tab.TabError.TheVariants as stop
 use Rattle.bdb_val.specs.Steps.{IsChanging}
-use Rattle.bdb_update.specs.Calls.{MayChange, SomeMayChange, Changes, IsUntouched, HasStopped, StoresSized, with_stmts, with_others}
+use Rattle.bdb_update.specs.Calls.{MayChange, SomeMayChange, Changes, IsUnwritten, HasStopped, StoresSized, with_stmts, with_others}
 use Rattle.bdb_update.specs.Replacing.{MayReplaceAll, SomeMayReplace, Replace}
 use Rattle.bdb_tables.specs.Stored.{Stores}
 use Rattle.bdb_update.specs.Steps.{ChangesThrough, ReplacesThrough, WritesThrough, steps_of}
@@ -90,7 +90,7 @@ module _ (t : Tables) (c : Counts) (w : List ℕ) (gone come : List Stmt) (x : S
         next = next_is_valid b.catalog b.stmts w gone come (may_replace t c w gone come b m) k.0 k.1;
       }
 
-pub untouched : (old new : Seen) (c : Counts) → IsQuiet old new → IsUntouched old new c c
+pub untouched : (old new : Seen) (c : Counts) → IsQuiet old new → IsUnwritten old new c c
 untouched old new c q = record { kept = q.kept; writes = q.writes; counts = refl; goes_on = q.goes }
 
 module _ (old mid : Seen) (c : Counts) (w : List ℕ) (gone come : List Stmt) (x : Stmt) (first : slice_get gone 0 ≡ Some x) (q : IsQuiet old mid) where

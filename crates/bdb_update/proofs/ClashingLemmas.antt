@@ -24,7 +24,7 @@ use Rattle.bdb_base.proofs.BaseLemmas.{clash_itself}
 use Rattle.bdb_base.proofs.ClashLemmas.{turned, clash_is_symmetric}
 use Rattle.bdb_base.proofs.ListLemmas.{list_any_fails}
 use Rattle.bdb_base.proofs.SetLemmas.{is_lt-Less, cases_Ordering}
-use Rattle.bdb_update.specs.Clashing.{is_near, clashes_near, clashes_ahead, first_ahead}
+use Rattle.bdb_update.specs.Clashing.{is_beside, clashes_near, clashes_ahead, first_ahead}
 
 -- ---- groups: statements of one path, relation and key
 
@@ -45,7 +45,7 @@ path_is : (w : List ℕ) (x y : Stmt) → x.path ≡ w → same_path y.path w �
 path_is w x y e = ap (same_path y.path) (sym e) ∙ turned same_path same_path-Decides y.path x.path ∙ sym (is_eq_path_cmp x.path y.path)
 
 -- a statement is near one of the path exactly where both are of one group
-near_is : (keys : ℕ → ℕ) (w : List ℕ) (x y : Stmt) → x.path ≡ w → is_near keys w x y ≡ is_eq (group_cmp keys x y)
+near_is : (keys : ℕ → ℕ) (w : List ℕ) (x y : Stmt) → x.path ≡ w → is_beside keys w x y ≡ is_eq (group_cmp keys x y)
 near_is keys w x y e =
     let rest = ordering_then (nat_cmp x.tuple.rel y.tuple.rel) (row_cmp (key_of keys x.tuple) (key_of keys y.tuple)) in
     ap (λ b. b && same_key keys x.tuple y.tuple) (path_is w x y e) ∙ ap (λ b. is_eq (path_cmp x.path y.path) && b) (same_key_is keys x.tuple y.tuple)
@@ -105,7 +105,7 @@ between_is R o x y z a b e = elim (cases_Ordering (R x y)) [
         false≢true (sym (ap is_eq (sym same ∙ l)) ∙ e)
     between_less l (inr (inr m)) = true≢false (sym (ap is_gt m) ∙ b)
 
-near_between : (keys : ℕ → ℕ) (w : List ℕ) (x y z : Stmt) → x.path ≡ w → statement_cmp x y ≡ Less → statement_cmp y z ≡ Less → is_near keys w x z ≡ true → is_near keys w x y ≡ true
+near_between : (keys : ℕ → ℕ) (w : List ℕ) (x y z : Stmt) → x.path ≡ w → statement_cmp x y ≡ Less → statement_cmp y z ≡ Less → is_beside keys w x z ≡ true → is_beside keys w x y ≡ true
 near_between keys w x y z e xy yz n = near_is keys w x y e
     ∙ between_is (group_cmp keys) (group_total keys) x y z (groups_in_order keys x y xy) (groups_in_order keys y z yz) (sym (near_is keys w x z e) ∙ n)
 
@@ -123,7 +123,7 @@ clash_is_of_key keys t u Minus Plus h = same_key_itself keys t u h
 clash_is_of_key keys t u Minus Minus h = absurd (false≢true h)
 
 -- a statement of the path that clashes with another is near it
-clash_is_near : (keys : ℕ → ℕ) (w : List ℕ) (x y : Stmt) → (same_path y.path w && clash keys x.tuple x.sign y.tuple y.sign) ≡ true → is_near keys w x y ≡ true
+clash_is_near : (keys : ℕ → ℕ) (w : List ℕ) (x y : Stmt) → (same_path y.path w && clash keys x.tuple x.sign y.tuple y.sign) ≡ true → is_beside keys w x y ≡ true
 clash_is_near keys w x y h =
     let k = and_parts (same_path y.path w) (clash keys x.tuple x.sign y.tuple y.sign) h in
     and_from (same_path y.path w) (same_key keys x.tuple y.tuple) k.0 (clash_is_of_key keys x.tuple y.tuple x.sign y.sign k.1)
@@ -157,7 +157,7 @@ near_tells keys w x [] e h s = refl
 near_tells keys w x (y ∷ ys) e h s =
     let k = and_parts (is_lt (statement_cmp x y)) (above_all x ys) h in
     let m = and_parts (above_all y ys) (ascending statement_cmp ys) s in
-    elim (cases_Bool (is_near keys w x y)) [
+    elim (cases_Bool (is_beside keys w x y)) [
       | inl n ↦
           let p = and_parts (same_path y.path w) (same_key keys x.tuple y.tuple) n in
           ap (λ b. b && (clash keys x.tuple x.sign y.tuple y.sign || clashes_near keys w x ys)) n

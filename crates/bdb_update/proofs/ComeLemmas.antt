@@ -11,9 +11,9 @@ use Rattle.bdb_tables.specs.InUse.{val_codec}
 use Rattle.bdb_tables.specs.Names.{Names, path_of, is_listed, are_once, with_name}
 use Rattle.bdb_tables.specs.Rows.{HoldsRows, row_named}
 use Rattle.bdb_tables.proofs.DifferenceLemmas.{differences_are_counted}
-use Rattle.bdb_val.specs.WorldCopies.{IsBare}
+use Rattle.bdb_val.specs.WorldCopies.{IsBareWorld}
 use Rattle.bdb_worlds.specs.Growth.{with_prefixes, AreLeast}
-use Rattle.bdb_update.specs.Filling.{AreTold, Before, HaveCome, names_now}
+use Rattle.bdb_update.specs.Filling.{AreFillable, Before, HaveCome, names_now}
 use Rattle.bdb_tables.specs.Stored.{SameBut}
 use Rattle.bdb_update.specs.Tallies.{HasRowCount, vals_at, nothing_at}
 use Rattle.bdb_update.proofs.BetweenLemmas.{vals_same}
@@ -68,7 +68,7 @@ used_more ns path len (n ∷ new) = let e = used_more (with_name ns n (take (suc
 
 -- ---- so many rows have the worlds that have theirs
 
-module _ (s : Before) (told : List Stmt) (t now : Tables) (xs ys : List ℕ) (c : HaveCome s t (xs ++ ys)) (a : AreTold s told t) (same : SameBut (λ n. nat_eq n 11) t now)
+module _ (s : Before) (told : List Stmt) (t now : Tables) (xs ys : List ℕ) (c : HaveCome s t (xs ++ ys)) (a : AreFillable s told t) (same : SameBut (λ n. nat_eq n 11) t now)
     (rows : HoldsRows s.keys s.stmts (path_of (names_now s xs)) s.tuples.tuple now) where
   abbrev pub part : Names
   part = names_now s xs
@@ -101,6 +101,6 @@ module _ (s : Before) (told : List Stmt) (t now : Tables) (xs ys : List ℕ) (c 
       rows_are_few s.keys s.stmts part a.consistent a.few (omega arith)
 
 -- a world that has no name has no rows
-pub bare : (s : Before) (ns : Names) (now : Tables) (wid : ℕ) → HoldsRows s.keys s.stmts (path_of ns) s.tuples.tuple now → path_of ns wid ≡ None → IsBare now wid
+pub bare : (s : Before) (ns : Names) (now : Tables) (wid : ℕ) → HoldsRows s.keys s.stmts (path_of ns) s.tuples.tuple now → path_of ns wid ≡ None → IsBareWorld now wid
 bare s ns now wid rows none k v e =
     rows.rows k v ∙ ap (option_map val_codec.row_bytes) (ap (λ p. row_named s.keys s.stmts k p (s.tuples.tuple k.3)) (ap (path_of ns) e ∙ none))

@@ -18,7 +18,7 @@ use Rattle.bdb_tables.specs.Marks.{Mark}
 use Rattle.bdb_val.specs.Reads.{AreReadUnder, AreTold, HaveTuples, IsTold}
 use Rattle.bdb_val.specs.declared.stored.StoredRow.{StoredRow}
 use Rattle.bdb_val.proofs.ToldLemmas.{Stands, entries_stand}
-use Rattle.bdb_update.specs.Groups.{AreExplicit, AreExplicitUnder, HasTuple, IsPicked, is_explicit_entry}
+use Rattle.bdb_update.specs.Groups.{AreExplicitRows, AreExplicitUnder, HasTupleRow, IsPicked, is_explicit_entry}
 
 -- ---- one row more
 
@@ -28,7 +28,7 @@ told_push t [] e (y ∷ ys) x a h = absurd a
 told_push t (d ∷ ds) e [] x a h = absurd a
 told_push t (d ∷ ds) e (y ∷ ys) x a h = (a.0, told_push t ds e ys x a.1 h)
 
-picked : (t : Tables) (es : List (ValKey × Mark)) (e : ValKey × Mark) (xs ys : List StoredRow) → AreExplicit t es xs → IsPicked t e xs ys → AreExplicit t (es ++ e ∷ []) ys
+picked : (t : Tables) (es : List (ValKey × Mark)) (e : ValKey × Mark) (xs ys : List StoredRow) → AreExplicitRows t es xs → IsPicked t e xs ys → AreExplicitRows t (es ++ e ∷ []) ys
 picked t es e xs ys a h = elim (cases_Bool e.1.1) [
   | inl c ↦
       let k : (x : StoredRow) × IsTold t e x × (ys ≡ xs ++ x ∷ []) = subst (λ b. MatchBool b ((x : StoredRow) × IsTold t e x × (ys ≡ xs ++ x ∷ [])) (ys ≡ xs)) c h in
@@ -41,18 +41,18 @@ picked t es e xs ys a h = elim (cases_Bool e.1.1) [
 ]
 
 pub picked_more : (t : Tables) (es : List (ValKey × Mark)) (i : ℕ) (e : ValKey × Mark) (xs ys : List StoredRow) → i < length es → e ≡ get_or es i e
-    → AreExplicit t (take i es) xs → IsPicked t e xs ys → AreExplicit t (take (i + 1) es) ys
+    → AreExplicitRows t (take i es) xs → IsPicked t e xs ys → AreExplicitRows t (take (i + 1) es) ys
 picked_more t es i e xs ys lt is a h =
-    subst (λ ds. AreExplicit t ds ys) (sym (take_more es i e lt ∙ ap (λ y. take i es ++ y ∷ []) (sym is))) (picked t (take i es) e xs ys a h)
+    subst (λ ds. AreExplicitRows t ds ys) (sym (take_more es i e lt ∙ ap (λ y. take i es ++ y ∷ []) (sym is))) (picked t (take i es) e xs ys a h)
 
 -- ---- all rows of a group
 
-pub have_tuples : (t : Tables) (es : List (ValKey × Mark)) → HaveTuples t → AllByRecursion (Stands t) es → AllByRecursion (HasTuple t) es
+pub have_tuples : (t : Tables) (es : List (ValKey × Mark)) → HaveTuples t → AllByRecursion (Stands t) es → AllByRecursion (HasTupleRow t) es
 have_tuples t [] h a = tt
 have_tuples t (e ∷ es) h a = (h e.0 a.0.0 a.0.1, have_tuples t es h a.1)
 
 module _ (t : Tables) (grammar : InGrammar t) where
-  row_told : (e : ValKey × Mark) → HasTuple t e → (x : StoredRow) × IsTold t e x
+  row_told : (e : ValKey × Mark) → HasTupleRow t e → (x : StoredRow) × IsTold t e x
   row_told e h =
       let r = some_of (tables.get t (place tuple_codec e.0.3)) h in
       let k : IsEntryOf tuple_codec (num_bytes e.0.3) r.0 = grammar 4 (num_bytes e.0.3) r.0 r.1 in (
@@ -60,7 +60,7 @@ module _ (t : Tables) (grammar : InGrammar t) where
         record { tid = refl; mark = refl; tuple = record { in_grammar = k.row_reads.fits; found = r.1 ∙ ap Some (sym k.row_reads.spelled) } },
       )
 
-  all_told : (es : List (ValKey × Mark)) → AllByRecursion (HasTuple t) es → (xs : List StoredRow) × AreTold t es xs
+  all_told : (es : List (ValKey × Mark)) → AllByRecursion (HasTupleRow t) es → (xs : List StoredRow) × AreTold t es xs
   all_told [] a = ([], tt)
   all_told (e ∷ es) a =
       let x = row_told e a.0 in
@@ -84,7 +84,7 @@ one_told t e x y a b =
 abbrev pub is_explicit_row : StoredRow → Bool
 is_explicit_row x = x.mark.1
 
-explicit_is : (t : Tables) (es : List (ValKey × Mark)) (all xs : List StoredRow) → AreTold t es all → AreExplicit t es xs → xs ≡ filter is_explicit_row all
+explicit_is : (t : Tables) (es : List (ValKey × Mark)) (all xs : List StoredRow) → AreTold t es all → AreExplicitRows t es xs → xs ≡ filter is_explicit_row all
 explicit_is t [] [] [] a h = refl
 explicit_is t [] [] (x ∷ xs) a h = absurd h
 explicit_is t [] (y ∷ ys) xs a h = absurd a
@@ -96,7 +96,7 @@ explicit_is t (e ∷ es) (y ∷ ys) xs a h = elim (cases_Bool e.1.1) [
       ∙ sym (cond-false y.mark.1 (y ∷ filter is_explicit_row ys) (filter is_explicit_row ys) (ap (λ (m : Mark). m.1) a.0.mark ∙ c))
 ]
   where
-    first : ((zs : List StoredRow) → AreExplicit t es zs → zs ≡ filter is_explicit_row ys) → (zs : List StoredRow) → AreTold t (e ∷ filter is_explicit_entry es) zs → zs ≡ y ∷ filter is_explicit_row ys
+    first : ((zs : List StoredRow) → AreExplicitRows t es zs → zs ≡ filter is_explicit_row ys) → (zs : List StoredRow) → AreTold t (e ∷ filter is_explicit_entry es) zs → zs ≡ y ∷ filter is_explicit_row ys
     first more [] k = absurd k
     first more (z ∷ zs) k = ap (λ w. w ∷ zs) (one_told t e z y k.0 a.0) ∙ ap (λ l. y ∷ l) (more zs k.1)
 

@@ -30,7 +30,7 @@ use Rattle.bdb_val.proofs.Calls.{HasGone, gone_then, gone_changing}
 use Rattle.bdb_val.proofs.HeldLemmas.{names_are_linked}
 use Rattle.bdb_worlds.proofs.ReadLemmas.{link_read}
 use Rattle.bdb_update.specs.ChangeLaws.{inherited}
-use Rattle.bdb_update.specs.Filling.{AreTold, Before, HaveCome, SomeHaveCome, FillsWorlds, HasLink, IsFilled, names_now}
+use Rattle.bdb_update.specs.Filling.{AreFillable, Before, HaveCome, SomeHaveCome, FillsWorlds, HasSomeLink, IsWorldFilled, names_now}
 use Rattle.bdb_tables.specs.Stored.{SameBut}
 use Rattle.bdb_update.proofs.PrefixLemmas.{front, next_path, every, front_free, next_length, next_named, shorter_named, next_is_new}
 use Rattle.bdb_update.proofs.ReachLemmas.{plain_world_inherits}
@@ -174,7 +174,7 @@ pub record IsFilling (old now : Seen) (wids : List ℕ) (k count : ℕ) : Type 0
   pub grammar : InGrammar now.kept
   pub tuples : HaveTuples now.kept
   pub filled : (s : Before) → HaveCome s old.kept wids → HoldsRows s.keys s.stmts (path_of (names_now s (take k wids))) s.tuples.tuple now.kept
-  pub counted : (s : Before) (told : List Stmt) → HaveCome s old.kept wids → AreTold s told old.kept → (a z : ℕ) → HasRowCount old.kept a → HasRowCount now.kept z → z ≡ a + count
+  pub counted : (s : Before) (told : List Stmt) → HaveCome s old.kept wids → AreFillable s told old.kept → (a z : ℕ) → HasRowCount old.kept a → HasRowCount now.kept z → z ≡ a + count
   pub writes : Rises count old.writes now.writes
 
 pub filling_begins : (old : Seen) (wids : List ℕ) (count : ℕ) → count ≡ 0 → InGrammar old.kept → HaveTuples old.kept → IsFilling old old wids 0 count
@@ -196,13 +196,13 @@ wids_split wids k n lt e = sym (take-append-drop k wids) ∙ ap (λ ys. take k w
 link_back : (t u : Tables) (n m : ℕ) → SameBut rows_alone t u → HasAt link_codec u n (Some m) → HasAt link_codec t n (Some m)
 link_back t u n m same has = record { in_grammar = has.in_grammar; found = sym (same 7 (num_bytes n) refl) ∙ has.found }
 
-pub has_link : (old now : Seen) (wids : List ℕ) (k n count : ℕ) → IsFilling old now wids k count → k < length wids → n ≡ get_or wids k 0 → SomeHaveCome old.kept wids → HasLink now.kept n
+pub has_link : (old now : Seen) (wids : List ℕ) (k n count : ℕ) → IsFilling old now wids k count → k < length wids → n ≡ get_or wids k 0 → SomeHaveCome old.kept wids → HasSomeLink now.kept n
 has_link old now wids k n count f lt e some =
     let c = subst (HaveCome some.before old.kept) (wids_split wids k n lt e) some.come in
     ap is_some (f.others 7 (num_bytes n) refl) ∙ link_there some.before old.kept (take k wids) (drop (k + 1) wids) n c
 
 module _ {T E : Type 0} (old now new : Seen) (wids : List ℕ) (k n count rows more : ℕ) (x : T) (fault : E) (f : IsFilling old now wids k count) (lt : k < length wids) (e : n ≡ get_or wids k 0)
-    (filled : IsFilled now.kept new.kept n) (tells : TellsCopy now new n rows) (alone : SamePlacesBut rows_alone now.kept new.kept) (written : Rises rows now.writes new.writes) (sum : more ≡ capped (count + rows))
+    (filled : IsWorldFilled now.kept new.kept n) (tells : TellsCopy now new n rows) (alone : SamePlacesBut rows_alone now.kept new.kept) (written : Rises rows now.writes new.writes) (sum : more ≡ capped (count + rows))
     (grammar : InGrammar new.kept) (tuples : HaveTuples new.kept) (changing : IsChanging {T = T} {E = E} now new (Ok x) fault) where
   abbrev xs : List ℕ
   xs = take k wids
@@ -226,7 +226,7 @@ module _ {T E : Type 0} (old now new : Seen) (wids : List ℕ) (k n count rows m
       let linked = link_is s old.kept xs ys n c2 m (link_back old.kept now.kept n m f.others filled.linked) in
       one_filled s old.kept xs ys n c2 now.kept new.kept m (f.filled s c) linked filled.copied
 
-  counted_more : (s : Before) (told : List Stmt) → HaveCome s old.kept wids → AreTold s told old.kept → (a z : ℕ) → HasRowCount old.kept a → HasRowCount new.kept z → z ≡ a + more
+  counted_more : (s : Before) (told : List Stmt) → HaveCome s old.kept wids → AreFillable s told old.kept → (a z : ℕ) → HasRowCount old.kept a → HasRowCount new.kept z → z ≡ a + more
   counted_more s told c t a z first last =
       let c2 = split s c in
       let c3 : HaveCome s old.kept ((xs ++ n ∷ []) ++ ys) = subst (HaveCome s old.kept) (assoc xs) c2 in

@@ -15,9 +15,9 @@ use Rattle.bdb_tables.specs.Rows.{Tuples, row_for}
 use Rattle.bdb_tables.specs.Writes.{with_change, with_row_at}
 use Rattle.bdb_val.specs.Groups.{IsUnsettled}
 use Rattle.bdb_val.specs.Reads.{is_of_group}
-use Rattle.bdb_val.specs.Settling.{AreNumbered}
+use Rattle.bdb_val.specs.Settling.{HaveTupleNumbers}
 use Rattle.bdb_update.proofs.KeyLemmas.{lengths_fit}
-use Rattle.bdb_update.specs.Differing.{AreWithin, DifferAt, said_at}
+use Rattle.bdb_update.specs.Differing.{AreWithin, DifferAt, row_said_at}
 use Rattle.bdb_tables.specs.Stored.{StoredOver}
 use Rattle.bdb_update.specs.ChangeLaws.{SettledGroupStores}
 use Rattle.bdb_update.proofs.ChangeLemmas.{changed_row_unsettles}
@@ -28,10 +28,10 @@ use Rattle.bdb_tables.proofs.SameLemmas.{outside_one, gives_still, tuples_still,
 pub group_unsettled : (reached told next : List Stmt) (ns : Names) (ts : Tuples) (t : Tables) (b : Contents) (w : List ℕ) (u : Tuple) (wid tid : ℕ)
     → StoredOver reached told ns ts t b → AreWithin b.stmts reached told → AreWithin next reached told → IsConsistent (keys_of b) b.stmts → IsConsistent (keys_of b) next
     → DifferAt (keys_of b) b.stmts next w u → path_of ns wid ≡ Some w → ts.tuple tid ≡ Some u
-    → IsUnsettled (keys_of b) next ns ts.tuple (with_row_at val_codec (row_for (keys_of b) b.stmts (path_of ns) ts.tuple) (said_at (keys_of b) next w wid tid u)) (with_change val_codec t (said_at (keys_of b) next w wid tid u)) wid
+    → IsUnsettled (keys_of b) next ns ts.tuple (with_row_at val_codec (row_for (keys_of b) b.stmts (path_of ns) ts.tuple) (row_said_at (keys_of b) next w wid tid u)) (with_change val_codec t (row_said_at (keys_of b) next w wid tid u)) wid
     (is_of_group (keys_of b) u.rel (key_of (keys_of b) u))
 group_unsettled reached told next ns ts t b w u wid tid h old new c d differ path name =
-    let numbered : AreNumbered ts.tuple next = λ p x s e. (
+    let numbered : HaveTupleNumbers ts.tuple next = λ p x s e. (
     let n = some_of (ts.number x) (h.tuples.stated x ∙ new.tuples x (explicit_tuple next p x s e)) in
     (n.0, h.tuples.numbered x n.0 n.1)) in
     changed_row_unsettles (keys_of b) b.stmts next told _ ns ts t w u wid tid (lengths_fit t b.catalog.rels h.rels) h.states h.tuples h.rows

@@ -27,7 +27,7 @@ use Rattle.bdb_update.specs.Joining.{IsWorld, is_of_tuples}
 use Rattle.bdb_update.specs.Keys.{keys_of}
 use Rattle.bdb_update.specs.Leaving.{IsGoneWith, CountsLeft, MayLose, counts_less, standing, TriesDrop}
 use Rattle.bdb_update.specs.Looking.{IsFinding, is_own}
-use Rattle.bdb_update.specs.Parting.{MayPart, SomeMayPart, SomeHasParted, Parts, PartsRows, SomeHasFewerWorlds, LosesWorlds, CountsWorlds, LosesRows, LosesNumber, TellsNumber, Leaves}
+use Rattle.bdb_update.specs.Parting.{MayPart, SomeMayPart, SomeHasParted, Parts, PartsRows, SomeHasFewerWorlds, LosesWorlds, CountsWorlds, LosesRows, LosesNumber, TellsNumber, PartsWith}
 use Rattle.bdb_tables.specs.Stored.{SameBut, Stores}
 use Rattle.bdb_update.specs.Tallies.{HasRowCount}
 use Rattle.bdb_update.specs.declared.leaving.Gone.{Gone}
@@ -52,7 +52,7 @@ some_parted t u x s parts = record { base = s.base; parted = parts s.base s.stor
 pub some_fewer : (u v : Tables) (x : Stmt) → SomeHasParted u x → LosesWorlds u v x → SomeHasFewerWorlds v x
 some_fewer u v x s loses = record { base = s.base; worlds = loses s.base s.parted s.may; may = s.may }
 
-pub leaves : (t u v w : Tables) (x : Stmt) → Parts t u x → LosesWorlds u v x → LosesNumber v w x → Leaves t w x
+pub leaves : (t u v w : Tables) (x : Stmt) → Parts t u x → LosesWorlds u v x → LosesNumber v w x → PartsWith t w x
 leaves t u v w x parts loses number b s may = number b (loses b (parts b s may) may) may
 
 pub counts_left : (t u v w : Tables) (x : Stmt) (g : Gone) (taken gone : ℕ) → g.went ≡ counted (counted (taken + 1) + gone) → Parts t u x → PartsRows t u x g.came taken → LosesWorlds u v x
@@ -188,7 +188,7 @@ module _ (old mid new : Seen) (c : Counts) (x : Stmt) (p : Finding) (place : IsF
   may_lose_now s =
       subst (λ (k : Counts). MayLose k g) (sym s.may.base.counted) (may_lose s.base x (may_part old.kept c x p place s.base s.may tid e) g (gone_with s.base s.may))
 
-  pub drop_leaves : (next : Counts) → next ≡ counts_less c g → Leaves mid.kept new.kept x → GoesOn old new → TriesDrop old new c x (Ok (Some next))
+  pub drop_leaves : (next : Counts) → next ≡ counts_less c g → PartsWith mid.kept new.kept x → GoesOn old new → TriesDrop old new c x (Ok (Some next))
   drop_leaves next is leaves goes b may =
       let part = may_part old.kept c x p place b may tid e in
       record {

@@ -29,7 +29,7 @@ use Rattle.bdb_base.proofs.UpdateLemmas.{list_any-with, list_all-with, with_keep
 use Rattle.bdb_base.proofs.FindLemmas.{list_any-filter}
 use Rattle.bdb_base.proofs.BoolLemmas.{and_false, or_true}
 use Rattle.bdb_paths.proofs.StateLemmas.{state_is_listed}
-use Rattle.bdb_update.specs.Calls.{are_apart}
+use Rattle.bdb_update.specs.Calls.{none_comes_again}
 use Rattle.bdb_update.specs.Reached.{told_elsewhere, lost_of, fresh_of}
 use Rattle.bdb_update.proofs.ReachedLemmas.{any_left, length_left, length_with}
 
@@ -97,7 +97,7 @@ pub record MayReplace (c : Catalog) (stmts : List Stmt) (w : List ℕ) (gone com
   pub valid : IsValid c stmts
   pub gone_here : list_all (λ x. same_path x.path w) gone ≡ true
   pub stand : list_all (stands stmts) gone ≡ true
-  pub apart : are_apart gone ≡ true
+  pub apart : none_comes_again gone ≡ true
   pub come_here : list_all (λ x. same_path x.path w) come ≡ true
   pub belong : list_all (belongs c) come ≡ true
   pub no_more : length come ≤ length gone

@@ -3,12 +3,12 @@ use Rattle.std.proofs.Common.{◌≡◌, ◌∙◌, ◌+◌, ◌≤◌, ℕ, Lis
 use Prim.Native.Nat.{zero, suc}
 use Rattle.bdb_base.specs.declared.kinds.Stmt.{Stmt}
 use Rattle.bdb_keep.specs.Seen.{Seen}
-use Rattle.bdb_update.specs.Bounds.{WritesWithin}
+use Rattle.bdb_update.specs.Bounds.{WritesWithinMore}
 
 -- so many statements are gone: while it is none, nothing was done; one that is alone was taken away with few writes
 pub record OneGoes (old new : Seen) (all : List Stmt) (gone : ℕ) : Type 0 where
   pub none : gone ≡ 0 → new ≡ old
-  pub one : (x : Stmt) → all ≡ x ∷ [] → 1 ≤ gone → WritesWithin (length x.path + 2) 8 old new
+  pub one : (x : Stmt) → all ≡ x ∷ [] → 1 ≤ gone → WritesWithinMore (length x.path + 2) 8 old new
 
 -- what is left of a list of one is that one, where anything is left
 left_of_one : (n : ℕ) (x y : Stmt) (rest : List Stmt) → drop n (x ∷ []) ≡ y ∷ rest → (n ≡ 0) × (y ≡ x)
@@ -21,16 +21,16 @@ some_gone zero x e = absurd cc
 some_gone (suc n) x e = omega arith
 
 -- the next one goes
-pub one_more : (old mid new : Seen) (all : List Stmt) (n : ℕ) (y : Stmt) (rest : List Stmt) → drop n all ≡ y ∷ rest → OneGoes old mid all n → WritesWithin (length y.path + 2) 8 mid new
+pub one_more : (old mid new : Seen) (all : List Stmt) (n : ℕ) (y : Stmt) (rest : List Stmt) → drop n all ≡ y ∷ rest → OneGoes old mid all n → WritesWithinMore (length y.path + 2) 8 mid new
     → OneGoes old new all (n + 1)
 one_more old mid new all n y rest split goes writes = record {
   none = λ e. absurd (omega arith);
   one = λ x is _.
       let first = left_of_one n x y rest (ap (drop n) (sym is) ∙ split) in
-      subst (λ (s : Seen). WritesWithin (length x.path + 2) 8 s new) (goes.none first.0)
-      (subst (λ (z : Stmt). WritesWithin (length z.path + 2) 8 mid new) first.1 writes);
+      subst (λ (s : Seen). WritesWithinMore (length x.path + 2) 8 s new) (goes.none first.0)
+      (subst (λ (z : Stmt). WritesWithinMore (length z.path + 2) 8 mid new) first.1 writes);
 }
 
 -- all are gone
-pub one_gone : (old new : Seen) (all : List Stmt) (n : ℕ) (x : Stmt) → drop n all ≡ [] → OneGoes old new all n → all ≡ x ∷ [] → WritesWithin (length x.path + 2) 8 old new
+pub one_gone : (old new : Seen) (all : List Stmt) (n : ℕ) (x : Stmt) → drop n all ≡ [] → OneGoes old new all n → all ≡ x ∷ [] → WritesWithinMore (length x.path + 2) 8 old new
 one_gone old new all n x end goes is = goes.one x is (some_gone n x (ap (drop n) (sym is) ∙ end))

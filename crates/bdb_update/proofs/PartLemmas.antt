@@ -28,7 +28,7 @@ use Rattle.bdb_val.proofs.HeldLemmas.{held_rows_are_explicit}
 use Rattle.bdb_val.proofs.ReadLemmas.{key_fits}
 use Rattle.bdb_val.proofs.StateLemmas.{changes_keep}
 use Rattle.bdb_update.proofs.KeyLemmas.{IsKeyIn, lengths_fit}
-use Rattle.bdb_update.specs.Differing.{explicit_row, said_at}
+use Rattle.bdb_update.specs.Differing.{explicit_row, row_said_at}
 use Rattle.bdb_update.specs.Joining.{IsWorld, key_made}
 use Rattle.bdb_update.specs.Keys.{keys_of}
 use Rattle.bdb_update.specs.Parting.{MayPart, SomeMayPart, Parts, PartsRows, row_taken}
@@ -77,7 +77,7 @@ module _ (t m v : Tables) (x : Stmt) (wid tid : ℕ) (key : List Value) (first :
       let consistent : IsConsistent (keys_of b) b.stmts = valid_is_consistent b.catalog b.stmts may.valid in
       let said : explicit_sign next x.path x.tuple ≡ None = drop_says_none (keys_of b) b.stmts x consistent (sym (stands_is_explicit b.stmts x) ∙ may.there) in
       let key_is : row_key (keys_of b) wid tid x.tuple ≡ (wid, x.tuple.rel, key, tid) = ap (λ (z : List Value). row_of wid x.tuple.rel z tid) (first b.catalog.rels h.stored.rels) in
-      let made : m ≡ with_change val_codec t (said_at (keys_of b) next x.path wid tid x.tuple) = taken
+      let made : m ≡ with_change val_codec t (row_said_at (keys_of b) next x.path wid tid x.tuple) = taken
       ∙ sym (ap (λ (k : ValKey). with_change val_codec t (k, explicit_row (explicit_sign next x.path x.tuple))) key_is
       ∙ ap (λ o. with_change val_codec t ((wid, x.tuple.rel, key, tid), explicit_row o)) said) in
       let named = world (record { users = is_user b.catalog.users; names = h.names }) h.stored.states (belongs_parts b.catalog x may.belongs).users in
@@ -87,9 +87,9 @@ module _ (t m v : Tables) (x : Stmt) (wid tid : ℕ) (key : List Value) (first :
         tuples = h.tuples;
         stored = settled_group_stores b.stmts b.stmts next h.names h.tuples t v b x.path x.tuple wid tid h.stored (record { states = λ w e. e; tuples = λ u e. e }) (drop_is_within b.stmts x)
             consistent (consistent_before (keys_of b) b.stmts x consistent) (drop_differs_at (keys_of b) b.stmts x) (h.stored.states.names.numbered x.path wid named) (h.stored.tuples.numbered x.tuple tid (sym read))
-            (subst (λ (z : List Value). SettlesGroup (with_change val_codec t (said_at (keys_of b) next x.path wid tid x.tuple)) v wid x.tuple.rel z) (sym (first b.catalog.rels h.stored.rels))
+            (subst (λ (z : List Value). SettlesGroup (with_change val_codec t (row_said_at (keys_of b) next x.path wid tid x.tuple)) v wid x.tuple.rel z) (sym (first b.catalog.rels h.stored.rels))
             (subst (λ (z : Tables). SettlesGroup z v wid x.tuple.rel key) made settles))
-            (same_then (λ n. nat_eq n 11) t (with_change val_codec t (said_at (keys_of b) next x.path wid tid x.tuple)) v (change_same val_codec (λ n. nat_eq n 11) t (said_at (keys_of b) next x.path wid tid x.tuple) refl)
+            (same_then (λ n. nat_eq n 11) t (with_change val_codec t (row_said_at (keys_of b) next x.path wid tid x.tuple)) v (change_same val_codec (λ n. nat_eq n 11) t (row_said_at (keys_of b) next x.path wid tid x.tuple) refl)
             (subst (λ (z : Tables). SameBut (λ n. nat_eq n 11) z v) made same));
       }
 
@@ -105,7 +105,7 @@ module _ (t : Tables) (mid new : Seen) (x : Stmt) (wid tid : ℕ) (key : List Va
       let there = sym (stands_is_explicit b.stmts x) ∙ may.there in
       let said : explicit_sign next x.path x.tuple ≡ None = drop_says_none (keys_of b) b.stmts x consistent there in
       let key_is : row_key (keys_of b) wid tid x.tuple ≡ (wid, x.tuple.rel, key, tid) = ap (λ (y : List Value). row_of wid x.tuple.rel y tid) (first b.catalog.rels h.stored.rels) in
-      let made : mid.kept ≡ with_change val_codec t (said_at (keys_of b) next x.path wid tid x.tuple) = taken
+      let made : mid.kept ≡ with_change val_codec t (row_said_at (keys_of b) next x.path wid tid x.tuple) = taken
       ∙ sym (ap (λ (k : ValKey). with_change val_codec t (k, explicit_row (explicit_sign next x.path x.tuple))) key_is
       ∙ ap (λ o. with_change val_codec t ((wid, x.tuple.rel, key, tid), explicit_row o)) said) in
       let named = world (record { users = is_user b.catalog.users; names = h.names }) h.stored.states (belongs_parts b.catalog x may.belongs).users in
@@ -113,10 +113,10 @@ module _ (t : Tables) (mid new : Seen) (x : Stmt) (wid tid : ℕ) (key : List Va
       let tuple = h.stored.tuples.numbered x.tuple tid (sym (number_read b.stmts h.tuples t x.tuple (Some tid) h.stored.tuples fits has)) in
       let unsettled = group_unsettled b.stmts b.stmts next h.names h.tuples t b x.path x.tuple wid tid h.stored (record { states = λ w e. e; tuples = λ u e. e }) (drop_is_within b.stmts x)
       consistent less (drop_differs_at (keys_of b) b.stmts x) path tuple in
-      let changed : ValKey → Option Mark = with_row_at val_codec (row_for (keys_of b) b.stmts (path_of h.names) h.tuples.tuple) (said_at (keys_of b) next x.path wid tid x.tuple) in
+      let changed : ValKey → Option Mark = with_row_at val_codec (row_for (keys_of b) b.stmts (path_of h.names) h.tuples.tuple) (row_said_at (keys_of b) next x.path wid tid x.tuple) in
       tells (keys_of b) next h.names h.tuples.tuple changed
       (subst (λ (v : Tables). IsUnsettled (keys_of b) next h.names h.tuples.tuple changed v wid (is_of_group (keys_of b) x.tuple.rel key)) (sym made)
-      (subst (λ (y : List Value). IsUnsettled (keys_of b) next h.names h.tuples.tuple changed (with_change val_codec t (said_at (keys_of b) next x.path wid tid x.tuple)) wid (is_of_group (keys_of b) x.tuple.rel y)) (first b.catalog.rels h.stored.rels) unsettled))
+      (subst (λ (y : List Value). IsUnsettled (keys_of b) next h.names h.tuples.tuple changed (with_change val_codec t (row_said_at (keys_of b) next x.path wid tid x.tuple)) wid (is_of_group (keys_of b) x.tuple.rel y)) (first b.catalog.rels h.stored.rels) unsettled))
 
 -- it balances the numbers of rows
 module _ (t : Tables) (mid new : Seen) (x : Stmt) (wid tid : ℕ) (key : List Value) (s : Settled) (first : IsKeyIn t x.tuple key)

@@ -19,7 +19,7 @@ use Rattle.bdb_base.proofs.ListLemmas.{filter_kept_one, filter_dropped_one, list
 use Rattle.bdb_base.proofs.SetLemmas.{list_any-put_in, put_keeps_order, filter_keeps_order, members_make_set, take_drops_member, take_keeps_order, put_adds_member, is_eq_itself, is_eq_turned}
 use Rattle.bdb_base.proofs.FindLemmas.{list_any-filter}
 use Rattle.bdb_base.proofs.UpdateLemmas.{without_keeps_order}
-use Rattle.bdb_update.specs.Calls.{are_apart}
+use Rattle.bdb_update.specs.Calls.{none_comes_again}
 use Rattle.bdb_update.specs.Reached.{at_path, said_at, said_of}
 use Rattle.bdb_val.specs.declared.stored.StoredRow.{StoredRow}
 use Rattle.bdb_update.proofs.PartCountLemmas.{put_back}
@@ -125,18 +125,18 @@ stand_still xs x (g ∷ gone) n e =
 pub record GoesFirst (xs : List Stmt) (x : Stmt) (gone : List Stmt) : Type 0 where
   pub here : stands xs x ≡ true
   pub later : list_all (stands (without_statement xs x)) gone ≡ true
-  pub apart : are_apart gone ≡ true
+  pub apart : none_comes_again gone ≡ true
 
-pub goes_first : (xs : List Stmt) (x : Stmt) (gone : List Stmt) → list_all (stands xs) (x ∷ gone) ≡ true → are_apart (x ∷ gone) ≡ true → GoesFirst xs x gone
+pub goes_first : (xs : List Stmt) (x : Stmt) (gone : List Stmt) → list_all (stands xs) (x ∷ gone) ≡ true → none_comes_again (x ∷ gone) ≡ true → GoesFirst xs x gone
 goes_first xs x gone e a =
     let k = and_parts (stands xs x) (list_all (stands xs) gone) e in
     elim (cases_Bool (stands gone x)) [
-      | inl h ↦ absurd (false≢true (sym (cond-true (stands gone x) false (are_apart gone) h) ∙ a))
-      | inr h ↦ record { here = k.0; later = stand_still xs x gone h k.1; apart = sym (cond-false (stands gone x) false (are_apart gone) h) ∙ a }
+      | inl h ↦ absurd (false≢true (sym (cond-true (stands gone x) false (none_comes_again gone) h) ∙ a))
+      | inr h ↦ record { here = k.0; later = stand_still xs x gone h k.1; apart = sym (cond-false (stands gone x) false (none_comes_again gone) h) ∙ a }
     ]
 
 -- what is found among all is found among those left or those gone
-pub any_left : (p : Stmt → Bool) (xs gone : List Stmt) → ascending statement_cmp xs ≡ true → list_all (stands xs) gone ≡ true → are_apart gone ≡ true
+pub any_left : (p : Stmt → Bool) (xs gone : List Stmt) → ascending statement_cmp xs ≡ true → list_all (stands xs) gone ≡ true → none_comes_again gone ≡ true
     → list_any p xs ≡ (list_any p (without_statements xs gone) || list_any p gone)
 any_left p xs [] s e a = sym (or_false (list_any p xs))
 any_left p xs (x ∷ gone) s e a =
@@ -145,7 +145,7 @@ any_left p xs (x ∷ gone) s e a =
     ∙ ap (λ b. p x || b) (any_left p (without_statement xs x) gone (take_keeps_order statement_exact xs x s) k.later k.apart)
     ∙ or_swap (p x) (list_any p (without_statements (without_statement xs x) gone)) (list_any p gone)
 
-pub length_left : (xs gone : List Stmt) → ascending statement_cmp xs ≡ true → list_all (stands xs) gone ≡ true → are_apart gone ≡ true → length (without_statements xs gone) + length gone ≡ length xs
+pub length_left : (xs gone : List Stmt) → ascending statement_cmp xs ≡ true → list_all (stands xs) gone ≡ true → none_comes_again gone ≡ true → length (without_statements xs gone) + length gone ≡ length xs
 length_left xs [] s e a = omega arith
 length_left xs (x ∷ gone) s e a =
     let k = goes_first xs x gone e a in

@@ -33,7 +33,7 @@ use Rattle.bdb_val.proofs.Calls.{HasGone, gone_then, changing_err}
 use Rattle.bdb_update.specs.Calls.{StoresSized, MayMeet, SomeMayMeet, Drops, IsDropping, Adds, IsAdding, clash_of, with_stmts, size_passed, with_one, without_one}
 use Rattle.bdb_update.specs.Replacing.{MayGo, SomeMayGo, Go, MayCome, SomeMayCome, Come, MayReplaceAll, SomeMayReplace, Replace, is_stop}
 use Rattle.bdb_tables.specs.Stored.{Stores}
-use Rattle.bdb_update.specs.Bounds.{WritesWithin}
+use Rattle.bdb_update.specs.Bounds.{WritesWithinMore}
 use Rattle.bdb_update.specs.Keeping.{KeepsNumbers, ReplaceKeeps}
 use Rattle.bdb_update.specs.Steps.{ComesThrough, GoesThrough, KeepsOneWay, ReplacesThrough, WritesThrough, steps_with, steps_without}
 use Rattle.bdb_update.specs.Trying.{stopped_by}
@@ -114,7 +114,7 @@ one_left b x rest old new c d true m h =
 one_left b x rest old new c d false m h = absurd (false≢true (sym h.none ∙ (and_parts (stands b.stmts x) (list_all (stands b.stmts) rest) m.stand).0))
 
 pub going_more : (old mid new : Seen) (before now next : Counts) (all : List Stmt) (x : Stmt) (rest : List Stmt) (r : Bool) → SomeMayGo old.kept before all → IsGoing old mid before now all (x ∷ rest)
-    → Drops mid new now next x (Ok r) → WritesWithin (length x.path + 2) 8 mid new → NeverFall mid new → KeepsNumbers new.kept mid.kept → IsGoing old new before next all rest
+    → Drops mid new now next x (Ok r) → WritesWithinMore (length x.path + 2) 8 mid new → NeverFall mid new → KeepsNumbers new.kept mid.kept → IsGoing old new before next all rest
 going_more old mid new before now next all x rest r some g d w f n =
     let l = g.left some.base some.may in
     let b0 = with_stmts some.base l.stmts in
@@ -225,7 +225,7 @@ one_came b x rest old new c d Already m h =
     }
 
 pub coming_more : (old mid new : Seen) (before now next : Counts) (all : List Stmt) (x : Stmt) (rest : List Stmt) (r : Added) → SomeMayCome old.kept before all → IsComing old mid before now all (x ∷ rest)
-    → Adds mid new now next x (Ok r) → WritesWithin (length x.path + 2) 8 mid new → NeverFall mid new → KeepsNumbers mid.kept new.kept → IsComing old new before next all rest
+    → Adds mid new now next x (Ok r) → WritesWithinMore (length x.path + 2) 8 mid new → NeverFall mid new → KeepsNumbers mid.kept new.kept → IsComing old new before next all rest
 coming_more old mid new before now next all x rest r some g d w f n =
     let l = g.left some.base some.may in
     let b0 = with_stmts some.base l.stmts in

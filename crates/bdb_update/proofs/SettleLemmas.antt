@@ -29,7 +29,7 @@ use Rattle.bdb_val.specs.Settling.{row_key}
 use Rattle.bdb_val.proofs.StateLemmas.{changes_keep}
 use Rattle.bdb_update.proofs.KeyLemmas.{IsKeyIn}
 use Rattle.bdb_update.specs.Calls.{with_one}
-use Rattle.bdb_update.specs.Differing.{explicit_row, said_at}
+use Rattle.bdb_update.specs.Differing.{explicit_row, row_said_at}
 use Rattle.bdb_update.specs.Joining.{CountsSettled, HasNumber, MayJoin, SomeHasNumber, IsWorld, Settles, key_made, row_put}
 use Rattle.bdb_tables.specs.Stored.{SameBut}
 use Rattle.bdb_update.proofs.DifferLemmas.{put_differs_at}
@@ -68,7 +68,7 @@ module _ (t m v : Tables) (x : Stmt) (wid tid : ℕ) (key : List Value) (first :
       let consistent : IsConsistent (keys_of b) next = valid_is_consistent b.catalog next may.next in
       let said : explicit_sign next x.path x.tuple ≡ Some x.sign = put_says_sign (keys_of b) b.stmts x consistent in
       let key_is : row_key (keys_of b) wid tid x.tuple ≡ (wid, x.tuple.rel, key, tid) = ap (λ (z : List Value). row_of wid x.tuple.rel z tid) (first b.catalog.rels h.stored.rels) in
-      let made : m ≡ with_change val_codec t (said_at (keys_of b) next x.path wid tid x.tuple) = put
+      let made : m ≡ with_change val_codec t (row_said_at (keys_of b) next x.path wid tid x.tuple) = put
       ∙ sym (ap (λ (k : ValKey). with_change val_codec t (k, explicit_row (explicit_sign next x.path x.tuple))) key_is
       ∙ ap (λ o. with_change val_codec t ((wid, x.tuple.rel, key, tid), explicit_row o)) said) in
       let named = world (record { users = _; names = h.names }) h.stored.states (belongs_parts b.catalog x may.belongs).users in
@@ -79,9 +79,9 @@ module _ (t m v : Tables) (x : Stmt) (wid tid : ℕ) (key : List Value) (first :
         tuples = h.tuples;
         stored = settled_group_stores next next next h.names h.tuples t v b x.path x.tuple wid tid h.stored within (record { states = λ w e. e; tuples = λ u e. e })
             (valid_is_consistent b.catalog b.stmts may.valid) consistent (put_differs_at (keys_of b) b.stmts x) (h.stored.states.names.numbered x.path wid named) (h.stored.tuples.numbered x.tuple tid (sym read))
-            (subst (λ (z : List Value). SettlesGroup (with_change val_codec t (said_at (keys_of b) next x.path wid tid x.tuple)) v wid x.tuple.rel z) (sym (first b.catalog.rels h.stored.rels))
+            (subst (λ (z : List Value). SettlesGroup (with_change val_codec t (row_said_at (keys_of b) next x.path wid tid x.tuple)) v wid x.tuple.rel z) (sym (first b.catalog.rels h.stored.rels))
             (subst (λ (z : Tables). SettlesGroup z v wid x.tuple.rel key) made settles))
-            (same_then (λ n. nat_eq n 11) t (with_change val_codec t (said_at (keys_of b) next x.path wid tid x.tuple)) v (change_same val_codec (λ n. nat_eq n 11) t (said_at (keys_of b) next x.path wid tid x.tuple) refl)
+            (same_then (λ n. nat_eq n 11) t (with_change val_codec t (row_said_at (keys_of b) next x.path wid tid x.tuple)) v (change_same val_codec (λ n. nat_eq n 11) t (row_said_at (keys_of b) next x.path wid tid x.tuple) refl)
             (subst (λ (z : Tables). SameBut (λ n. nat_eq n 11) z v) made same));
       }
 
@@ -104,7 +104,7 @@ module _ (t : Tables) (mid new : Seen) (x : Stmt) (wid tid : ℕ) (key : List Va
       let consistent : IsConsistent (keys_of b) next = valid_is_consistent b.catalog next may.next in
       let said : explicit_sign next x.path x.tuple ≡ Some x.sign = put_says_sign (keys_of b) b.stmts x consistent in
       let key_is : row_key (keys_of b) wid tid x.tuple ≡ (wid, x.tuple.rel, key, tid) = ap (λ (v : List Value). row_of wid x.tuple.rel v tid) (first b.catalog.rels h.stored.rels) in
-      let made : mid.kept ≡ with_change val_codec t (said_at (keys_of b) next x.path wid tid x.tuple) = put
+      let made : mid.kept ≡ with_change val_codec t (row_said_at (keys_of b) next x.path wid tid x.tuple) = put
       ∙ sym (ap (λ (k : ValKey). with_change val_codec t (k, explicit_row (explicit_sign next x.path x.tuple))) key_is
       ∙ ap (λ o. with_change val_codec t ((wid, x.tuple.rel, key, tid), explicit_row o)) said) in
       let named = world (record { users = _; names = h.names }) h.stored.states (belongs_parts b.catalog x may.belongs).users in
@@ -112,7 +112,7 @@ module _ (t : Tables) (mid new : Seen) (x : Stmt) (wid tid : ℕ) (key : List Va
       let within = put_is_within b.stmts x in
       let unsettled = group_unsettled next next next h.names h.tuples t b x.path x.tuple wid tid h.stored within (record { states = λ w e. e; tuples = λ u e. e })
       (valid_is_consistent b.catalog b.stmts may.valid) consistent (put_differs_at (keys_of b) b.stmts x) (h.stored.states.names.numbered x.path wid named) (h.stored.tuples.numbered x.tuple tid (sym read)) in
-      let f : ValKey → Option Mark = with_row_at val_codec (row_for (keys_of b) b.stmts (path_of h.names) h.tuples.tuple) (said_at (keys_of b) next x.path wid tid x.tuple) in
+      let f : ValKey → Option Mark = with_row_at val_codec (row_for (keys_of b) b.stmts (path_of h.names) h.tuples.tuple) (row_said_at (keys_of b) next x.path wid tid x.tuple) in
       tells (keys_of b) next h.names h.tuples.tuple f
       (subst (λ (v : List Value). IsUnsettled (keys_of b) next h.names h.tuples.tuple f mid.kept wid (is_of_group (keys_of b) x.tuple.rel v)) (first b.catalog.rels h.stored.rels)
       (subst (λ (u : Tables). IsUnsettled (keys_of b) next h.names h.tuples.tuple f u wid (is_of_group (keys_of b) x.tuple.rel (key_of (keys_of b) x.tuple))) (sym made) unsettled))

@@ -29,7 +29,7 @@ use Rattle.bdb_worlds.specs.Bounds.{EndsWithin}
 use Rattle.bdb_worlds.specs.Bounds as states
 use Rattle.bdb_worlds.specs.Growth.{SameOutside}
 use Rattle.bdb_update.specs.Keeping.{KeepsTuples}
-use Rattle.bdb_update.specs.Bounds.{RowWrites, StateWrites, WritesWithin, is_of_states, part_at}
+use Rattle.bdb_update.specs.Bounds.{RowWrites, StateWrites, WritesWithinMore, is_of_states, part_at}
 use Rattle.bdb_update.specs.Joining.{is_of_tuples}
 use Rattle.bdb_update.specs.Numbering.{number_put, number_taken}
 use Rattle.bdb_update.specs.Tallies.{vals_at}
@@ -177,12 +177,12 @@ states_then_rows d rows old mid new within outside alone rises later ps diff sma
 
 -- ---- where tables were only read
 
-pub still_within : (times more : ℕ) (old mid new : Seen) → mid.kept ≡ old.kept → mid.writes ≡ old.writes → WritesWithin times more mid new → WritesWithin times more old new
+pub still_within : (times more : ℕ) (old mid new : Seen) → mid.kept ≡ old.kept → mid.writes ≡ old.writes → WritesWithinMore times more mid new → WritesWithinMore times more old new
 still_within times more old mid new kept writes h ps d =
     subst (λ n. EndsWithin (times * length ps + more) n new.writes) writes (h ps (subst (λ (t : Tables). AreDifferences (tables.get t) (tables.get new.kept) ps) (sym kept) d))
 
-pub quiet_within : (times more : ℕ) (old mid new : Seen) → IsQuiet old mid → WritesWithin times more mid new → WritesWithin times more old new
+pub quiet_within : (times more : ℕ) (old mid new : Seen) → IsQuiet old mid → WritesWithinMore times more mid new → WritesWithinMore times more old new
 quiet_within times more old mid new q h = still_within times more old mid new q.kept q.writes h
 
-pub none_within : (times more : ℕ) (old new : Seen) → new.writes ≡ old.writes → WritesWithin times more old new
+pub none_within : (times more : ℕ) (old new : Seen) → new.writes ≡ old.writes → WritesWithinMore times more old new
 none_within times more old new e ps d small = omega (arith, e)

@@ -13,7 +13,7 @@ use Rattle.bdb_base.proofs.ListLemmas.{list_all_weaker, list_all-filter}
 use Rattle.bdb_base.proofs.SetLemmas.{absent_above, filter_keeps_order, is_eq_itself, members_make_set}
 use Rattle.bdb_base.proofs.UserLemmas.{member-filter}
 use Rattle.bdb_base.proofs.UpdateLemmas.{without_keeps_order, stands_without}
-use Rattle.bdb_update.specs.Calls.{are_apart}
+use Rattle.bdb_update.specs.Calls.{none_comes_again}
 
 -- ---- they stand, each once
 
@@ -23,16 +23,16 @@ stands_all (x ∷ xs) =
     and_from (stands (x ∷ xs) x) (list_all (stands (x ∷ xs)) xs) (or_left (is_eq (statement_cmp x x)) (stands xs x) (is_eq_itself statement_exact x))
     (list_all_weaker (stands xs) (stands (x ∷ xs)) (λ y e. or_right (is_eq (statement_cmp x y)) (stands xs y) e) xs (stands_all xs))
 
-ascending_apart : (xs : List Stmt) → ascending statement_cmp xs ≡ true → are_apart xs ≡ true
+ascending_apart : (xs : List Stmt) → ascending statement_cmp xs ≡ true → none_comes_again xs ≡ true
 ascending_apart [] up = refl
 ascending_apart (x ∷ xs) up =
     let k = and_parts (list_all (λ y. is_lt (statement_cmp x y)) xs) (ascending statement_cmp xs) up in
-    cond-false (stands xs x) false (are_apart xs) (absent_above statement_exact x xs k.0) ∙ ascending_apart xs k.1
+    cond-false (stands xs x) false (none_comes_again xs) (absent_above statement_exact x xs k.0) ∙ ascending_apart xs k.1
 
 pub taken_stand : (q : Stmt → Bool) (stmts : List Stmt) → list_all (stands stmts) (filter q stmts) ≡ true
 taken_stand q stmts = list_all-filter (stands stmts) q stmts (stands_all stmts)
 
-pub taken_apart : (q : Stmt → Bool) (stmts : List Stmt) → ascending statement_cmp stmts ≡ true → are_apart (filter q stmts) ≡ true
+pub taken_apart : (q : Stmt → Bool) (stmts : List Stmt) → ascending statement_cmp stmts ≡ true → none_comes_again (filter q stmts) ≡ true
 taken_apart q stmts up = ascending_apart (filter q stmts) (filter_keeps_order statement_exact q stmts up)
 
 -- ---- the others are left

@@ -25,7 +25,7 @@ use Rattle.bdb_canon.specs.declared.sizes.Counts.{Counts}
 use Rattle.bdb_keep.specs.Tables.{Tables}
 use Rattle.bdb_tables.proofs.Fitting.{belonging_may_be}
 use Rattle.bdb_update.specs.Calls.{MayChange, clash_within, with_others}
-use Rattle.bdb_update.specs.Elsewhere.{HasTuples, are_at}
+use Rattle.bdb_update.specs.Elsewhere.{MayBeTuples, are_at}
 use Rattle.bdb_update.specs.Holding.{AreOfOnePath}
 use Rattle.bdb_tables.specs.Lengths.{HaveKeyLengths}
 use Rattle.bdb_update.specs.Keys.{keys_of}
@@ -48,7 +48,7 @@ all_belong c stmts (x ∷ xs) h e =
     let k = and_parts (stands stmts x) (list_all (stands stmts) xs) e in
     and_from (belongs c x) (list_all (belongs c) xs) (stands_belongs c stmts x h k.0) (all_belong c stmts xs h k.1)
 
-have_tuples : (b : Contents) (xs : List Stmt) → IsValid b.catalog b.stmts → list_all (belongs b.catalog) xs ≡ true → HasTuples xs
+have_tuples : (b : Contents) (xs : List Stmt) → IsValid b.catalog b.stmts → list_all (belongs b.catalog) xs ≡ true → MayBeTuples xs
 have_tuples b [] v e = tt
 have_tuples b (x ∷ xs) v e =
     let k = and_parts (belongs b.catalog x) (list_all (belongs b.catalog) xs) e in
@@ -94,11 +94,11 @@ has_state t c w gone come b m = by gone m.may.gone_here m.may.stand m.some
 pub some_state : (t : Tables) (c : Counts) (w : List ℕ) (gone come : List Stmt) → SomeMayWeigh t c w gone come → SomeHasState t w
 some_state t c w gone come s = record { base = s.base; has = has_state t c w gone come s.base s.may }
 
-pub gone_tuples : (t : Tables) (c : Counts) (w : List ℕ) (gone come : List Stmt) → SomeMayWeigh t c w gone come → HasTuples gone
+pub gone_tuples : (t : Tables) (c : Counts) (w : List ℕ) (gone come : List Stmt) → SomeMayWeigh t c w gone come → MayBeTuples gone
 gone_tuples t c w gone come s =
     let v = s.may.may.base.valid in have_tuples s.base gone v (all_belong s.base.catalog s.base.stmts gone v.stmts.belong s.may.may.stand)
 
-pub come_tuples : (t : Tables) (c : Counts) (w : List ℕ) (gone come : List Stmt) → SomeMayWeigh t c w gone come → HasTuples come
+pub come_tuples : (t : Tables) (c : Counts) (w : List ℕ) (gone come : List Stmt) → SomeMayWeigh t c w gone come → MayBeTuples come
 come_tuples t c w gone come s = have_tuples s.base come s.may.may.base.valid s.may.may.belong
 
 -- what stands at the path then is in order

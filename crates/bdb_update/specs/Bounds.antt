@@ -26,8 +26,8 @@ use Rattle.bdb_update.specs.Tallies.{vals_at}
 -- ---- all together
 
 -- for each place at which the rows before and after differ no more than so many writes are made, and some more in all
-abbrev pub WritesWithin : ℕ → ℕ → Seen → Seen → Type 0
-WritesWithin times more old new = (ps : List (List ℕ)) → AreDifferences (tables.get old.kept) (tables.get new.kept) ps → EndsWithin (times * length ps + more) old.writes new.writes
+abbrev pub WritesWithinMore : ℕ → ℕ → Seen → Seen → Type 0
+WritesWithinMore times more old new = (ps : List (List ℕ)) → AreDifferences (tables.get old.kept) (tables.get new.kept) ps → EndsWithin (times * length ps + more) old.writes new.writes
 
 -- ---- step by step
 

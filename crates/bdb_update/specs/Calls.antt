@@ -46,7 +46,7 @@ abbrev pub with_stmts : Contents → List Stmt → Contents
 with_stmts b stmts = record b { stmts = stmts }
 
 -- nothing was written, the sizes stay, and a transaction that ran still runs
-pub record IsUntouched (old new : Seen) (before after : Counts) : Type 0 where
+pub record IsUnwritten (old new : Seen) (before after : Counts) : Type 0 where
   pub kept : new.kept ≡ old.kept
   pub writes : new.writes ≡ old.writes
   pub counts : after ≡ before
@@ -96,18 +96,18 @@ pub record IsNew (b : Contents) (x : Stmt) (old new : Seen) (after : Counts) : T
 -- it stands already
 pub record IsAlready (b : Contents) (x : Stmt) (old new : Seen) (before after : Counts) : Type 0 where
   pub there : stands b.stmts x ≡ true
-  pub untouched : IsUntouched old new before after
+  pub untouched : IsUnwritten old new before after
 
 -- it clashes with a statement, the least such one
 pub record IsClashing (b : Contents) (x least : Stmt) (old new : Seen) (before after : Counts) : Type 0 where
   pub clash : clash_of b x ≡ Some least
-  pub untouched : IsUntouched old new before after
+  pub untouched : IsUnwritten old new before after
 
 -- it clashes with none, but with it a limit is passed, the first such one
 pub record IsFull (b : Contents) (x : Stmt) (what : What) (old new : Seen) (before after : Counts) : Type 0 where
   pub apart : clash_of b x ≡ None
   pub passed : size_passed (counts_of (with_one b x)) ≡ Some what
-  pub untouched : IsUntouched old new before after
+  pub untouched : IsUnwritten old new before after
 
 -- what comes of adding a statement to a base, by the answer
 abbrev pub IsAdding : Contents → Stmt → Seen → Seen → Counts → Counts → Result Added UpdateError → Type 0
@@ -136,7 +136,7 @@ pub record IsGone (b : Contents) (x : Stmt) (old new : Seen) (after : Counts) : 
 -- it did not stand
 pub record IsAbsent (b : Contents) (x : Stmt) (old new : Seen) (before after : Counts) : Type 0 where
   pub none : stands b.stmts x ≡ false
-  pub untouched : IsUntouched old new before after
+  pub untouched : IsUnwritten old new before after
 
 -- what comes of taking a statement away from a base, by the answer
 abbrev pub IsDropping : Contents → Stmt → Seen → Seen → Counts → Counts → Result Bool TabError → Type 0
@@ -156,9 +156,9 @@ abbrev pub with_others : Contents → List Stmt → List Stmt → Contents
 with_others b gone come = with_stmts b (with_statements (without_statements b.stmts gone) come)
 
 -- no statement of a list comes again
-abbrev pub are_apart : List Stmt → Bool
-are_apart [] = true
-are_apart (x ∷ xs) = if stands xs x then false else are_apart xs
+abbrev pub none_comes_again : List Stmt → Bool
+none_comes_again [] = true
+none_comes_again (x ∷ xs) = if stands xs x then false else none_comes_again xs
 
 -- Statements of one path may be changed: those that go stand, each once, and no more come, all of this path and of the
 -- catalog.
@@ -166,7 +166,7 @@ pub record MayChange (t : Tables) (counts : Counts) (w : List ℕ) (gone come : 
   pub base : StoresSized t counts b
   pub gone_here : AllByRecursion (λ x. x.path ≡ w) gone
   pub stand : list_all (stands b.stmts) gone ≡ true
-  pub apart : are_apart gone ≡ true
+  pub apart : none_comes_again gone ≡ true
   pub come_here : AllByRecursion (λ x. x.path ≡ w) come
   pub belong : list_all (belongs b.catalog) come ≡ true
   pub no_more : length come ≤ length gone
@@ -189,23 +189,23 @@ pub record IsChanged (w : List ℕ) (next : Contents) (old new : Seen) (after : 
 -- statements of the path would clash, of which this is the least
 pub record WouldClash (w : List ℕ) (next : Contents) (least : Stmt) (old new : Seen) (before after : Counts) : Type 0 where
   pub clash : clash_within next w ≡ Some least
-  pub untouched : IsUntouched old new before after
+  pub untouched : IsUnwritten old new before after
 
 -- none would clash, but there would be too many tuples
 pub record WouldFill (w : List ℕ) (next : Contents) (what : What) (old new : Seen) (before after : Counts) : Type 0 where
   pub apart : clash_within next w ≡ None
   pub tuples : what ≡ Tuples
   pub many : nat_lt most_tuples (tuple_count next.stmts) ≡ true
-  pub untouched : IsUntouched old new before after
+  pub untouched : IsUnwritten old new before after
 
 -- what comes of changing statements of one path, by the answer
-abbrev pub IsChanging : List ℕ → Contents → Seen → Seen → Counts → Counts → Result (Unit {0}) UpdateError → Type 0
-IsChanging w next old new before after (Ok tt) = IsChanged w next old new after
-IsChanging w next old new before after (Err (Clash least)) = WouldClash w next least old new before after
-IsChanging w next old new before after (Err (Full what)) = WouldFill w next what old new before after
-IsChanging w next old new before after (Err Fault) = HasFailed old new before after
-IsChanging w next old new before after (Err Memory) = HasStopped old new before after
+abbrev pub EndsChanging : List ℕ → Contents → Seen → Seen → Counts → Counts → Result (Unit {0}) UpdateError → Type 0
+EndsChanging w next old new before after (Ok tt) = IsChanged w next old new after
+EndsChanging w next old new before after (Err (Clash least)) = WouldClash w next least old new before after
+EndsChanging w next old new before after (Err (Full what)) = WouldFill w next what old new before after
+EndsChanging w next old new before after (Err Fault) = HasFailed old new before after
+EndsChanging w next old new before after (Err Memory) = HasStopped old new before after
 
 -- whichever base the tables store
 abbrev pub Changes : Seen → Seen → Counts → Counts → List ℕ → List Stmt → List Stmt → Result (Unit {0}) UpdateError → Type 0
-Changes old new before after w gone come result = (b : Contents) → MayChange old.kept before w gone come b → IsChanging w (with_others b gone come) old new before after result
+Changes old new before after w gone come result = (b : Contents) → MayChange old.kept before w gone come b → EndsChanging w (with_others b gone come) old new before after result

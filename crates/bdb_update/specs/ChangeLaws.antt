@@ -21,7 +21,7 @@ use Rattle.bdb_tables.specs.Stored.{SameBut, StoredOver}
 use Rattle.bdb_tables.specs.Writes.{with_change}
 use Rattle.bdb_val.specs.Groups.{SettlesGroup}
 use Rattle.bdb_val.specs.Settled.{HasStates}
-use Rattle.bdb_update.specs.Differing.{DifferAt, AreWithin, has_told, said_at}
+use Rattle.bdb_update.specs.Differing.{DifferAt, AreWithin, has_told, row_said_at}
 use Rattle.bdb_update.specs.Numbering.{with_number, without_number, number_put, number_taken}
 
 -- with one statement more they differ in its tuple at its path
@@ -39,7 +39,7 @@ abbrev pub SettledGroupStores : Type 0
 SettledGroupStores = (reached told next : List Stmt) (ns : Names) (ts : Tuples) (t v : Tables) (b : Contents) (w : List ℕ) (u : Tuple) (wid tid : ℕ)
     → StoredOver reached told ns ts t b → AreWithin b.stmts reached told → AreWithin next reached told → IsConsistent (key_lengths b.catalog.rels) b.stmts
     → IsConsistent (key_lengths b.catalog.rels) next → DifferAt (key_lengths b.catalog.rels) b.stmts next w u → path_of ns wid ≡ Some w → ts.tuple tid ≡ Some u
-    → SettlesGroup (with_change val_codec t (said_at (key_lengths b.catalog.rels) next w wid tid u)) v wid u.rel (key_of (key_lengths b.catalog.rels) u)
+    → SettlesGroup (with_change val_codec t (row_said_at (key_lengths b.catalog.rels) next w wid tid u)) v wid u.rel (key_of (key_lengths b.catalog.rels) u)
     → SameBut (λ n. nat_eq n 11) t v
     → StoredOver reached told ns ts v (record b { stmts = next })
 

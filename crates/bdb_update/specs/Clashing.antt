@@ -7,13 +7,13 @@ use Rattle.bdb_base.specs.declared.kinds.Sign.TheVariants.{Plus}
 use Rattle.bdb_base.specs.declared.kinds.Stmt.{Stmt}
 
 -- a statement is one of this very path, of the relation and key of another
-abbrev pub is_near : (ℕ → ℕ) → List ℕ → Stmt → Stmt → Bool
-is_near keys w x y = same_path y.path w && same_key keys x.tuple y.tuple
+abbrev pub is_beside : (ℕ → ℕ) → List ℕ → Stmt → Stmt → Bool
+is_beside keys w x y = same_path y.path w && same_key keys x.tuple y.tuple
 
 -- a statement clashes with one of these, before the first that is not near it
 abbrev pub clashes_near : (ℕ → ℕ) → List ℕ → Stmt → List Stmt → Bool
 clashes_near keys w x [] = false
-clashes_near keys w x (y ∷ ys) = is_near keys w x y && (clash keys x.tuple x.sign y.tuple y.sign || clashes_near keys w x ys)
+clashes_near keys w x (y ∷ ys) = is_beside keys w x y && (clash keys x.tuple x.sign y.tuple y.sign || clashes_near keys w x ys)
 
 -- a statement is one of this very path, plus, and clashes with one of those that follow it, before the first that is not near it
 abbrev pub clashes_ahead : (ℕ → ℕ) → List ℕ → Stmt → List Stmt → Bool

@@ -37,5 +37,5 @@ explicit_row None = None
 explicit_row (Some s) = Some (s, true)
 
 -- a tuple's row in a world becomes what the statements at a path say of it
-abbrev pub said_at : (ℕ → ℕ) → List Stmt → List ℕ → ℕ → ℕ → Tuple → ValKey × Option Mark
-said_at keys stmts w wid tid u = (row_key keys wid tid u, explicit_row (explicit_sign stmts w u))
+abbrev pub row_said_at : (ℕ → ℕ) → List Stmt → List ℕ → ℕ → ℕ → Tuple → ValKey × Option Mark
+row_said_at keys stmts w wid tid u = (row_key keys wid tid u, explicit_row (explicit_sign stmts w u))

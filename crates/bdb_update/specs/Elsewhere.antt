@@ -12,8 +12,8 @@ use Rattle.bdb_update.specs.Reached.{told_elsewhere, lost_of, fresh_of}
 use Rattle.bdb_tables.specs.Stored.{Stores}
 
 -- each statement's tuple may be written
-abbrev pub HasTuples : List Stmt → Type 0
-HasTuples xs = AllByRecursion (λ x. MayBeTuple x.tuple) xs
+abbrev pub MayBeTuples : List Stmt → Type 0
+MayBeTuples xs = AllByRecursion (λ x. MayBeTuple x.tuple) xs
 
 -- a statement, where it is kept
 abbrev pub kept_if : Bool → Stmt → List Stmt

@@ -53,7 +53,7 @@ FillsWorlds t u new = (s : Before) → HaveCome s t new → HoldsRows s.keys s.s
 
 -- the tuples of the worlds' statements have numbers, the lengths of keys are numbers of four bytes, no two statements of one path
 -- clash, and they are not too many
-pub record AreTold (s : Before) (told : List Stmt) (t : Tables) : Type 0 where
+pub record AreFillable (s : Before) (told : List Stmt) (t : Tables) : Type 0 where
   pub tuples : HoldsTuples told s.tuples t
   pub within : (u : Tuple) → has_told s.stmts u ≡ true → has_told told u ≡ true
   pub lengths : AreKeyLengths s.keys
@@ -62,14 +62,14 @@ pub record AreTold (s : Before) (told : List Stmt) (t : Tables) : Type 0 where
 
 -- so many rows have come
 abbrev pub CountsCome : Tables → Tables → List ℕ → ℕ → Type 0
-CountsCome t u new n = (s : Before) (told : List Stmt) → HaveCome s t new → AreTold s told t → (a z : ℕ) → HasRowCount t a → HasRowCount u z → z ≡ a + n
+CountsCome t u new n = (s : Before) (told : List Stmt) → HaveCome s t new → AreFillable s told t → (a z : ℕ) → HasRowCount t a → HasRowCount u z → z ≡ a + n
 
 -- a world has a suffix link
-abbrev pub HasLink : Tables → ℕ → Type 0
-HasLink t wid = is_some (tables.get t (place link_codec wid)) ≡ true
+abbrev pub HasSomeLink : Tables → ℕ → Type 0
+HasSomeLink t wid = is_some (tables.get t (place link_codec wid)) ≡ true
 
 -- a world has got the rows of the world to which its suffix link leads
-pub record IsFilled (t u : Tables) (wid : ℕ) : Type 0 where
+pub record IsWorldFilled (t u : Tables) (wid : ℕ) : Type 0 where
   pub link : ℕ
   pub linked : HasAt link_codec t wid (Some link)
   pub copied : CopiesWorld t u link wid

@@ -15,18 +15,18 @@ abbrev pub is_explicit_entry : ValKey × Mark → Bool
 is_explicit_entry e = e.1.1
 
 -- rows with their tuples are the explicit ones of some rows
-abbrev pub AreExplicit : Tables → List (ValKey × Mark) → List StoredRow → Type 0
-AreExplicit t es xs = AreTold t (filter is_explicit_entry es) xs
+abbrev pub AreExplicitRows : Tables → List (ValKey × Mark) → List StoredRow → Type 0
+AreExplicitRows t es xs = AreTold t (filter is_explicit_entry es) xs
 
 -- these are the explicit rows, with their tuples, whose keys begin so, in the order of the keys
 pub record AreExplicitUnder (t : Tables) (prefix : List ℕ) (xs : List StoredRow) : Type 0 where
   pub entries : List (ValKey × Mark)
   pub under : AreUnder val_codec t prefix entries
-  pub told : AreExplicit t entries xs
+  pub told : AreExplicitRows t entries xs
 
 -- the tuple of a row has its own row
-abbrev pub HasTuple : Tables → ValKey × Mark → Type 0
-HasTuple t e = is_some (tables.get t (place tuple_codec e.0.3)) ≡ true
+abbrev pub HasTupleRow : Tables → ValKey × Mark → Type 0
+HasTupleRow t e = is_some (tables.get t (place tuple_codec e.0.3)) ≡ true
 
 -- rows with their tuples are with one more, if it is explicit
 abbrev pub IsPicked : Tables → ValKey × Mark → List StoredRow → List StoredRow → Type 0

@@ -105,5 +105,5 @@ TellsNumber t x went = (b : Contents) → HasFewerWorlds t b x → MayPart b x �
 
 -- ---- all of it
 
-abbrev pub Leaves : Tables → Tables → Stmt → Type 0
-Leaves t u x = (b : Contents) → Stores t b → MayPart b x → Stores u (without_one b x)
+abbrev pub PartsWith : Tables → Tables → Stmt → Type 0
+PartsWith t u x = (b : Contents) → Stores t b → MayPart b x → Stores u (without_one b x)

@@ -8,8 +8,8 @@ use Rattle.bdb_canon.specs.declared.sizes.Counts.{Counts}
 use Rattle.bdb_keep.specs.Seen.{Seen}
 use Rattle.bdb_keep.specs.Tables.{Tables}
 use Rattle.bdb_tables.specs.declared.tab.TabError.{TabError}
-use Rattle.bdb_update.specs.Bounds.{WritesWithin}
-use Rattle.bdb_update.specs.Calls.{StoresSized, are_apart, with_stmts, with_others}
+use Rattle.bdb_update.specs.Bounds.{WritesWithinMore}
+use Rattle.bdb_update.specs.Calls.{StoresSized, none_comes_again, with_stmts, with_others}
 use Rattle.bdb_update.specs.declared.answer.UpdateError.{UpdateError}
 use Rattle.bdb_update.specs.declared.answer.UpdateError.TheVariants.{Clash, Full, Fault, Memory}
 
@@ -17,7 +17,7 @@ use Rattle.bdb_update.specs.declared.answer.UpdateError.TheVariants.{Clash, Full
 pub record MayGo (t : Tables) (counts : Counts) (gone : List Stmt) (b : Contents) : Type 0 where
   pub base : StoresSized t counts b
   pub stand : list_all (stands b.stmts) gone ≡ true
-  pub apart : are_apart gone ≡ true
+  pub apart : none_comes_again gone ≡ true
 
 pub record SomeMayGo (t : Tables) (counts : Counts) (gone : List Stmt) : Type 0 where
   pub base : Contents
@@ -30,7 +30,7 @@ Go t u before after gone = (b : Contents) → MayGo t before gone b → StoresSi
 -- One statement that goes alone is taken away with as many writes as are told of taking it away by itself: for each place at which
 -- the rows before and after differ no more than its path has users, and two; and eight more in all.
 abbrev pub WritesForOne : List Stmt → Seen → Seen → Result (Unit {0}) TabError → Type 0
-WritesForOne gone old new result = (x : Stmt) → gone ≡ x ∷ [] → OnOk result (WritesWithin (length x.path + 2) 8 old new)
+WritesForOne gone old new result = (x : Stmt) → gone ≡ x ∷ [] → OnOk result (WritesWithinMore (length x.path + 2) 8 old new)
 
 -- tables store a base of these sizes, which is valid with all of some statements of its catalog
 pub record MayCome (t : Tables) (counts : Counts) (come : List Stmt) (b : Contents) : Type 0 where

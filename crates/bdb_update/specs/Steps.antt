@@ -8,7 +8,7 @@ use Rattle.bdb_canon.specs.declared.sizes.Counts.{Counts}
 use Rattle.bdb_keep.specs.Seen.{Seen}
 use Rattle.bdb_keep.specs.Tables.{Tables}
 use Rattle.bdb_tables.specs.Stored.{Stores}
-use Rattle.bdb_update.specs.Bounds.{WritesWithin}
+use Rattle.bdb_update.specs.Bounds.{WritesWithinMore}
 use Rattle.bdb_update.specs.Calls.{MayChange, with_stmts, with_one, without_one}
 use Rattle.bdb_update.specs.Keeping.{KeepsNumbers}
 use Rattle.bdb_update.specs.Replacing.{MayCome, MayGo, MayReplaceAll}
@@ -38,7 +38,7 @@ KeepsOneWay t u = KeepsNumbers u t ⊎ KeepsNumbers t u
 -- sum of what each may make.
 abbrev pub WritesThrough : Seen → List (Stmt × Contents) → Seen → Type 0
 WritesThrough old [] new = (new.kept ≡ old.kept) × (new.writes ≡ old.writes)
-WritesThrough old (e ∷ es) new = (mid : Seen) × (old.writes ≤ mid.writes) × Stores mid.kept e.1 × KeepsOneWay old.kept mid.kept × WritesWithin (length e.0.path + 2) 8 old mid × WritesThrough mid es new
+WritesThrough old (e ∷ es) new = (mid : Seen) × (old.writes ≤ mid.writes) × Stores mid.kept e.1 × KeepsOneWay old.kept mid.kept × WritesWithinMore (length e.0.path + 2) 8 old mid × WritesThrough mid es new
 
 -- whichever base the tables store
 

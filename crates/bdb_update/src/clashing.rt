@@ -6,7 +6,7 @@ ghost use Rattle.bdb_base.specs.Changes.{first_clashing};
 ghost use Rattle.bdb_base.specs.Order.{statement_cmp};
 ghost use Rattle.bdb_base.specs.SortedSet.{ascending};
 ghost use Rattle.bdb_base.specs.declared.kinds.Sign.TheVariants.{Plus};
-ghost use Rattle.bdb_update.specs.Clashing.{clashes_ahead, clashes_near, first_ahead, is_near};
+ghost use Rattle.bdb_update.specs.Clashing.{clashes_ahead, clashes_near, first_ahead, is_beside};
 
 use crate::keys::{clash_in, same_key_in};
 use bdb_base::{RelDef, Sign, Stmt};
@@ -62,7 +62,7 @@ fn clashes_near(rels: &[RelDef], path: &[u32], x: &Stmt, others: &[Stmt]) -> boo
 
 // Whether a statement is one of this very path, of the relation and key of another.
 fn is_near(rels: &[RelDef], path: &[u32], x: &Stmt, y: &Stmt) -> bool
-    ensures { result ≡ is_near (key_lengths rels.now) path.now x.now y.now }
+    ensures { result ≡ is_beside (key_lengths rels.now) path.now x.now y.now }
 {
     y.path.as_slice() == path && same_key_in(rels, &x.tuple, &y.tuple)
 }

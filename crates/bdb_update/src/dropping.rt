@@ -1,7 +1,7 @@
 // Taking a statement away.
 ghost use Rattle.std.specs.Prelude.{◌≡◌, ◌+◌, true, length, OnOk};
 ghost use Rattle.bdb_keep.specs.Seen.{NeverFall};
-ghost use Rattle.bdb_update.specs.Bounds.{WritesWithin};
+ghost use Rattle.bdb_update.specs.Bounds.{WritesWithinMore};
 ghost use Rattle.bdb_update.specs.Calls.{Drops, SomeMayMeet};
 ghost use Rattle.bdb_update.specs.Keeping.{KeepsNumbers};
 
@@ -27,7 +27,7 @@ pub fn drop_statement<K: Keeper>(
     ensures dropped { Drops (K.seen keeper.old) (K.seen keeper.new)
         counts.old counts.new stmt.now result }
     ensures keeps { OnOk result (KeepsNumbers (K.seen keeper.new).kept (K.seen keeper.old).kept) }
-    ensures writes { OnOk result (WritesWithin (length stmt.now.path + 2) 8 (K.seen keeper.old)
+    ensures writes { OnOk result (WritesWithinMore (length stmt.now.path + 2) 8 (K.seen keeper.old)
         (K.seen keeper.new)) }
     ensures counts { NeverFall (K.seen keeper.old) (K.seen keeper.new) }
 {

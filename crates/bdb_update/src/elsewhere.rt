@@ -3,7 +3,7 @@ ghost use Rattle.std.specs.Prelude.{◌≡◌, ◌++◌, true, IfOk, OnOk};
 ghost use Rattle.bdb_keep.specs.Calls.{IsRead};
 ghost use Rattle.bdb_key.specs.Rows.{MayBeTuple};
 ghost use Rattle.bdb_tables.specs.Grammar.{InGrammar};
-ghost use Rattle.bdb_update.specs.Elsewhere.{AreFresh, AreLost, HasTuples, IsFresh, IsLost, kept_if};
+ghost use Rattle.bdb_update.specs.Elsewhere.{AreFresh, AreLost, IsFresh, IsLost, MayBeTuples, kept_if};
 ghost use Rattle.bdb_update.specs.Holding.{AreOfOnePath};
 
 use crate::holding::holds_tuple;
@@ -25,7 +25,7 @@ pub fn lost_of<K: Keeper>(
     requires running { (K.seen keeper.old).running ≡ true }
     requires grammar { InGrammar (K.seen keeper.old).kept }
     requires reached { AreOfOnePath reached.now }
-    requires tuples { HasTuples gone.now }
+    requires tuples { MayBeTuples gone.now }
     ensures lost { IfOk result (AreLost (K.seen keeper.old).kept reached.now gone.now) }
     ensures read { IsRead (K.seen keeper.old) (K.seen keeper.new) result TabError.Fault }
 {
@@ -54,7 +54,7 @@ pub fn fresh_of<K: Keeper>(
 ) -> Result<List<Stmt>, TabError>
     requires running { (K.seen keeper.old).running ≡ true }
     requires grammar { InGrammar (K.seen keeper.old).kept }
-    requires tuples { HasTuples come.now }
+    requires tuples { MayBeTuples come.now }
     ensures fresh { IfOk result (AreFresh (K.seen keeper.old).kept come.now) }
     ensures read { IsRead (K.seen keeper.old) (K.seen keeper.new) result TabError.Fault }
 {

@@ -5,7 +5,7 @@ ghost use Rattle.bdb_keep.specs.Calls.{IsRead};
 ghost use Rattle.bdb_tables.specs.Codec.{HasAt};
 ghost use Rattle.bdb_tables.specs.Grammar.{InGrammar};
 ghost use Rattle.bdb_tables.specs.InUse.{link_codec};
-ghost use Rattle.bdb_update.specs.Filling.{CountsCome, FillsWorlds, HasLink, IsFilled, SomeHaveCome};
+ghost use Rattle.bdb_update.specs.Filling.{CountsCome, FillsWorlds, HasSomeLink, IsWorldFilled, SomeHaveCome};
 ghost use Rattle.bdb_val.specs.Reads.{HaveTuples};
 ghost use Rattle.bdb_val.specs.Others.{SamePlacesBut};
 ghost use Rattle.bdb_val.specs.Steps.{IsChanging, counted};
@@ -61,8 +61,8 @@ fn fill_world<K: Keeper>(alloc: Global, keeper: &mut K, wid: u32) -> Result<usiz
     requires running { (K.seen keeper.old).running ≡ true }
     requires grammar { InGrammar (K.seen keeper.old).kept }
     requires tuples { HaveTuples (K.seen keeper.old).kept }
-    requires linked { HasLink (K.seen keeper.old).kept wid }
-    ensures filled { OnOk result (IsFilled (K.seen keeper.old).kept (K.seen keeper.new).kept wid) }
+    requires linked { HasSomeLink (K.seen keeper.old).kept wid }
+    ensures filled { OnOk result (IsWorldFilled (K.seen keeper.old).kept (K.seen keeper.new).kept wid) }
     ensures tells { IfOk result (TellsCopy (K.seen keeper.old) (K.seen keeper.new) wid) }
     ensures others { OnOk result
         (SamePlacesBut (λ n. nat_eq n 11) (K.seen keeper.old).kept (K.seen keeper.new).kept) }
@@ -85,7 +85,7 @@ fn fill_world<K: Keeper>(alloc: Global, keeper: &mut K, wid: u32) -> Result<usiz
 // The world to which the suffix link of a world leads.
 fn linked_to<K: Keeper>(alloc: Global, keeper: &mut K, wid: u32) -> Result<u32, TabError>
     requires grammar { InGrammar (K.seen keeper.old).kept }
-    requires linked { HasLink (K.seen keeper.old).kept wid }
+    requires linked { HasSomeLink (K.seen keeper.old).kept wid }
     ensures link { IfOk result (λ link. HasAt link_codec (K.seen keeper.old).kept wid (Some link)) }
     ensures read { IsRead (K.seen keeper.old) (K.seen keeper.new) result TabError.Fault }
 {

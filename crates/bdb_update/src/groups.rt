@@ -5,7 +5,7 @@ ghost use Rattle.bdb_base.specs.Clash.{key_of};
 ghost use Rattle.bdb_keep.specs.Calls.{IsRead};
 ghost use Rattle.bdb_tables.specs.Grammar.{InGrammar};
 ghost use Rattle.bdb_tables.specs.GroupMarks.{group_bytes};
-ghost use Rattle.bdb_update.specs.Groups.{AreExplicit, AreExplicitUnder, HasTuple, IsPicked};
+ghost use Rattle.bdb_update.specs.Groups.{AreExplicitRows, AreExplicitUnder, HasTupleRow, IsPicked};
 ghost use Rattle.bdb_val.specs.Reads.{HaveTuples};
 
 use crate::keys::KEY_ROOM;
@@ -72,9 +72,9 @@ fn explicit_among<K: Keeper>(
 ) -> Result<Vec<StoredRow>, TabError>
     requires running { (K.seen keeper.old).running ≡ true }
     requires grammar { InGrammar (K.seen keeper.old).kept }
-    requires there { AllByRecursion (HasTuple (K.seen keeper.old).kept) entries.now }
+    requires there { AllByRecursion (HasTupleRow (K.seen keeper.old).kept) entries.now }
     ensures rows { IfOk result
-        (λ rows. AreExplicit (K.seen keeper.old).kept entries.now rows.items) }
+        (λ rows. AreExplicitRows (K.seen keeper.old).kept entries.now rows.items) }
     ensures read { IsRead (K.seen keeper.old) (K.seen keeper.new) result TabError.Fault }
 {
     let mut rows = Vec::new(alloc);
@@ -96,7 +96,7 @@ fn push_explicit<K: Keeper>(
 ) -> Result<(), TabError>
     requires running { (K.seen keeper.old).running ≡ true }
     requires grammar { InGrammar (K.seen keeper.old).kept }
-    requires there { HasTuple (K.seen keeper.old).kept entry.now }
+    requires there { HasTupleRow (K.seen keeper.old).kept entry.now }
     ensures pushed { OnOk result
         (IsPicked (K.seen keeper.old).kept entry.now rows.old.items rows.new.items) }
     ensures read { IsRead (K.seen keeper.old) (K.seen keeper.new) result TabError.Fault }

@@ -3,7 +3,7 @@ ghost use Rattle.std.specs.Prelude.{◌≡◌, ◌+◌, true, length, IfOk, OnOk
 ghost use Rattle.bdb_key.specs.Rows.{IsTupleRow};
 ghost use Rattle.bdb_tables.specs.Codec.{HasAt};
 ghost use Rattle.bdb_tables.specs.InUse.{tuple_ix_codec};
-ghost use Rattle.bdb_update.specs.Bounds.{WritesWithin};
+ghost use Rattle.bdb_update.specs.Bounds.{WritesWithinMore};
 ghost use Rattle.bdb_update.specs.Joining.{CountsJoined, IsWorldFound, Joins, SomeMayJoin};
 ghost use Rattle.bdb_update.specs.Keeping.{KeepsNumbers, TakesLeastNames};
 ghost use Rattle.bdb_tables.specs.Lengths.{IsKeyLength};
@@ -50,7 +50,7 @@ pub fn insert<K: Keeper>(
         (TakesLeastNames (K.seen keeper.old).kept (K.seen keeper.new).kept stmt.now.path) }
     ensures number { OnOk result
         (TakesLeast (K.seen keeper.old).kept (K.seen keeper.new).kept stmt.now.tuple) }
-    ensures writes { OnOk result (WritesWithin (length stmt.now.path + 2) 8 (K.seen keeper.old)
+    ensures writes { OnOk result (WritesWithinMore (length stmt.now.path + 2) 8 (K.seen keeper.old)
         (K.seen keeper.new)) }
     ensures changing { IsChanging (K.seen keeper.old) (K.seen keeper.new) result TabError.Fault }
 {

@@ -4,13 +4,13 @@ ghost use Rattle.bdb_keep.specs.Seen.{NeverFall};
 ghost use Rattle.bdb_key.specs.Rows.{IsTupleRow};
 ghost use Rattle.bdb_tables.specs.Codec.{HasAt};
 ghost use Rattle.bdb_tables.specs.InUse.{tuple_ix_codec};
-ghost use Rattle.bdb_update.specs.Bounds.{WritesWithin};
+ghost use Rattle.bdb_update.specs.Bounds.{WritesWithinMore};
 ghost use Rattle.bdb_update.specs.Calls.{SomeMayMeet};
 ghost use Rattle.bdb_update.specs.Joining.{IsWorld};
 ghost use Rattle.bdb_update.specs.Keeping.{KeepsNumbers};
 ghost use Rattle.bdb_tables.specs.Lengths.{IsKeyLength};
 ghost use Rattle.bdb_update.specs.Leaving.{CountsLeft, MayLose, TriesDrop, counts_less, standing};
-ghost use Rattle.bdb_update.specs.Parting.{Leaves, SomeMayPart};
+ghost use Rattle.bdb_update.specs.Parting.{PartsWith, SomeMayPart};
 ghost use Rattle.bdb_val.specs.Steps.{IsChanging, counted};
 
 use crate::filling::both;
@@ -43,7 +43,7 @@ pub fn try_drop<K: Keeper>(
     requires base { SomeMayMeet (K.seen keeper.old).kept counts.now stmt.now }
     ensures tried { TriesDrop (K.seen keeper.old) (K.seen keeper.new) counts.now stmt.now result }
     ensures keeps { OnOk result (KeepsNumbers (K.seen keeper.new).kept (K.seen keeper.old).kept) }
-    ensures writes { OnOk result (WritesWithin (length stmt.now.path + 2) 8 (K.seen keeper.old)
+    ensures writes { OnOk result (WritesWithinMore (length stmt.now.path + 2) 8 (K.seen keeper.old)
         (K.seen keeper.new)) }
     ensures counts { NeverFall (K.seen keeper.old) (K.seen keeper.new) }
 {
@@ -88,10 +88,10 @@ fn leave<K: Keeper>(
     requires fits { IsTupleRow stmt.now.tuple }
     requires number { HasAt tuple_ix_codec (K.seen keeper.old).kept stmt.now.tuple (Some tid) }
     requires length { IsKeyLength (K.seen keeper.old).kept stmt.now.tuple.rel n }
-    ensures left { OnOk result (Leaves (K.seen keeper.old).kept (K.seen keeper.new).kept stmt.now) }
+    ensures left { OnOk result (PartsWith (K.seen keeper.old).kept (K.seen keeper.new).kept stmt.now) }
     ensures counted { IfOk result (CountsLeft (K.seen keeper.old).kept stmt.now) }
     ensures keeps { OnOk result (KeepsNumbers (K.seen keeper.new).kept (K.seen keeper.old).kept) }
-    ensures writes { OnOk result (WritesWithin (length stmt.now.path + 2) 8 (K.seen keeper.old)
+    ensures writes { OnOk result (WritesWithinMore (length stmt.now.path + 2) 8 (K.seen keeper.old)
         (K.seen keeper.new)) }
     ensures changing { IsChanging (K.seen keeper.old) (K.seen keeper.new) result TabError.Fault }
 {

@@ -1,7 +1,7 @@
 // Trying to add a statement.
 ghost use Rattle.std.specs.Prelude.{◌≡◌, ◌+◌, ◌-◌, ◌^◌, ◌<◌, ◌≤◌, true, length, OnOk};
 ghost use Rattle.bdb_keep.specs.Seen.{NeverFall};
-ghost use Rattle.bdb_update.specs.Bounds.{WritesWithin};
+ghost use Rattle.bdb_update.specs.Bounds.{WritesWithinMore};
 ghost use Rattle.bdb_update.specs.Calls.{SomeMayMeet};
 ghost use Rattle.bdb_update.specs.Examining.{AreSizes};
 ghost use Rattle.bdb_update.specs.Keeping.{KeepsNumbers, TakesLeastNames};
@@ -33,7 +33,7 @@ pub fn try_add<K: Keeper>(
         (TakesLeastNames (K.seen keeper.old).kept (K.seen keeper.new).kept stmt.now.path) }
     ensures number { OnOk result
         (TakesLeast (K.seen keeper.old).kept (K.seen keeper.new).kept stmt.now.tuple) }
-    ensures writes { OnOk result (WritesWithin (length stmt.now.path + 2) 8 (K.seen keeper.old)
+    ensures writes { OnOk result (WritesWithinMore (length stmt.now.path + 2) 8 (K.seen keeper.old)
         (K.seen keeper.new)) }
     ensures counts { NeverFall (K.seen keeper.old) (K.seen keeper.new) }
 {

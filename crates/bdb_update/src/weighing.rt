@@ -6,7 +6,7 @@ ghost use Rattle.bdb_base.specs.Order.{statement_cmp};
 ghost use Rattle.bdb_base.specs.SortedSet.{ascending};
 ghost use Rattle.bdb_keep.specs.Calls.{IsRead};
 ghost use Rattle.bdb_tables.specs.Grammar.{InGrammar};
-ghost use Rattle.bdb_update.specs.Elsewhere.{HasTuples};
+ghost use Rattle.bdb_update.specs.Elsewhere.{MayBeTuples};
 ghost use Rattle.bdb_update.specs.Holding.{AreOfOnePath};
 ghost use Rattle.bdb_update.specs.Weighing.{SomeMayWeigh, TellsRoom, Weighs, have_room};
 
@@ -124,8 +124,8 @@ fn tell_room<K: Keeper>(
     requires running { (K.seen keeper.old).running ≡ true }
     requires grammar { InGrammar (K.seen keeper.old).kept }
     requires reached { AreOfOnePath reached.now }
-    requires gone { HasTuples gone.now }
-    requires come { HasTuples come.now }
+    requires gone { MayBeTuples gone.now }
+    requires come { MayBeTuples come.now }
     ensures room { IfOk result
         (TellsRoom (K.seen keeper.old).kept tuples reached.now gone.now come.now) }
     ensures read { IsRead (K.seen keeper.old) (K.seen keeper.new) result TabError.Fault }

@@ -3,7 +3,7 @@ use Rattle.std.proofs.Common.{◌≡◌, ◌∙◌, ℕ, Bool, true, false, nat_
 use Rattle.std.specs.List.{list_any, flat_map}
 use Rattle.std.proofs.lemmas.Bool.{false≢true, cases_Bool, or_cases, or_left, or_right, or_from, or_parts, false_from_ne_true, cond-true, cond-false, eqb-true, eq-eqb, true_from_ne_false}
 use Rattle.std.proofs.lemmas.List.Folds.{list_any-append}
-use Rattle.bdb_val.specs.Settling.{RowChange, mark_in, next_mark, same_mark, change_at, has_mark, fresh_change, are_apart, are_changes_apart}
+use Rattle.bdb_val.specs.Settling.{RowChange, mark_in, next_mark, same_mark, change_at, has_mark, fresh_change, numbers_are_apart, are_changes_apart}
 use Rattle.bdb_val.specs.Laws.{SettlingIsApart}
 use Rattle.bdb_val.specs.declared.stored.StoredRow.{StoredRow}
 use Rattle.bdb_val.proofs.SettlingLemmas.{mark_is_some}
@@ -82,12 +82,12 @@ apart_append (x ∷ xs) ys a b h =
           ∙ apart_append xs ys rest b (λ tid k. h tid (or_right (nat_eq x.0 tid) (changed xs tid) k))
     ]
 
-changes_apart : (f : StoredRow → List RowChange) (skips : ℕ → Bool) → Gives f skips → (xs : List StoredRow) → are_apart xs ≡ true → are_changes_apart (flat_map f xs) ≡ true
+changes_apart : (f : StoredRow → List RowChange) (skips : ℕ → Bool) → Gives f skips → (xs : List StoredRow) → numbers_are_apart xs ≡ true → are_changes_apart (flat_map f xs) ≡ true
 changes_apart f skips g [] a = refl
 changes_apart f skips g (x ∷ xs) a = elim (cases_Bool (list_any (λ y. nat_eq y.tid x.tid) xs)) [
-  | inl e ↦ absurd (false≢true (sym (cond-true (list_any (λ y. nat_eq y.tid x.tid) xs) false (are_apart xs) e) ∙ a))
+  | inl e ↦ absurd (false≢true (sym (cond-true (list_any (λ y. nat_eq y.tid x.tid) xs) false (numbers_are_apart xs) e) ∙ a))
   | inr e ↦ apart_append (f x) (flat_map f xs) (g.once x)
-      (changes_apart f skips g xs (sym (cond-false (list_any (λ y. nat_eq y.tid x.tid) xs) false (are_apart xs) e) ∙ a))
+      (changes_apart f skips g xs (sym (cond-false (list_any (λ y. nat_eq y.tid x.tid) xs) false (numbers_are_apart xs) e) ∙ a))
       (λ tid k. changed_in f skips g xs tid (ap (λ i. list_any (λ y. nat_eq y.tid i) xs) (sym (eqb-true x.tid tid (g.own x tid k))) ∙ e))
 ]
 

@@ -29,7 +29,7 @@ use Rattle.bdb_tables.proofs.WriteLemmas.{get_after_change}
 use Rattle.bdb_val.specs.Counts.{has_none, TellsDifferences}
 use Rattle.bdb_val.specs.Reads.{world_prefix}
 use Rattle.bdb_val.specs.Steps.{counted}
-use Rattle.bdb_val.specs.WorldCopies.{key_in, IsBare, TellsCopy}
+use Rattle.bdb_val.specs.WorldCopies.{key_in, IsBareWorld, TellsCopy}
 use Rattle.bdb_val.proofs.CopyLemmas.{IsFoundIn, not_below_itself, each_found, key_in_fits, key_in_own}
 use Rattle.bdb_val.proofs.PlaceLemmas.{filter_whole, filter_nothing}
 use Rattle.bdb_val.proofs.ReadLemmas.{world_of_key}
@@ -96,7 +96,7 @@ module _ (t : Tables) (wid : ℕ) (n : IsNum wid) (es : List (ValKey × Mark)) (
 
   -- ---- copying
 
-  module _ (to : ℕ) (nt : IsNum to) (bare : IsBare t to) where
+  module _ (to : ℕ) (nt : IsNum to) (bare : IsBareWorld t to) where
     none_before : AllByRecursion (λ p. tables.get t p ≡ None) (map at_place (map (copied to) es))
     none_before = all_mapped at_place (λ x. tables.get t (at_place x) ≡ None) (λ p. tables.get t p ≡ None) (λ x e. e) (map (copied to) es)
         (all_mapped (copied to) (IsUnder val_codec (world_prefix wid)) (λ x. tables.get t (at_place x) ≡ None) (λ e u. bare (key_in to e.0) (key_in_fits to e.0 nt u.key) refl) es a.each)

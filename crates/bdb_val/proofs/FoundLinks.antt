@@ -23,7 +23,7 @@ use Rattle.bdb_tables.specs.InUseLaws.{pairs_in_order}
 use Rattle.bdb_tables.specs.Spans.{AreUnder, IsUnder, entry_bytes, entry_cmp}
 use Rattle.bdb_tables.proofs.ListLemmas.{prefix_append}
 use Rattle.bdb_val.specs.Others.{SamePlacesBut}
-use Rattle.bdb_val.specs.Visits.{AreLinks, ArePushed, led_to, leads_to, turned_round}
+use Rattle.bdb_val.specs.Visits.{AreAllLinks, ArePushed, led_to, leads_to, turned_round}
 use Rattle.bdb_val.proofs.OtherLemmas.{is_rows}
 use Rattle.bdb_val.proofs.WalkLemmas.{first_is}
 
@@ -181,7 +181,7 @@ found_filter wid n (e ∷ es) a q begins =
     ]
 
 -- the links that lead to a world come at the end of a list, where all links were read
-pub found_links : (t : Tables) (wid : ℕ) (links : List Link) (are_all : Bool) (before after : List (ℕ × ℕ)) → IsNum wid → AreLinks t are_all links → are_all ≡ true
+pub found_links : (t : Tables) (wid : ℕ) (links : List Link) (are_all : Bool) (before after : List (ℕ × ℕ)) → IsNum wid → AreAllLinks t are_all links → are_all ≡ true
     → after ≡ before ++ map turned_round (filter (leads_to wid) links) → ArePushed t wid before after
 found_links t wid links are_all before after n h all e =
     let k = h all in
@@ -200,10 +200,10 @@ found_links t wid links are_all before after n h all e =
     }
 
 -- links that were read are those of the tables while only rows of worlds change
-pub links_stay : (t u : Tables) → SamePlacesBut is_rows t u → (are_all : Bool) (links : List Link) → AreLinks t are_all links → AreLinks u are_all links
+pub links_stay : (t u : Tables) → SamePlacesBut is_rows t u → (are_all : Bool) (links : List Link) → AreAllLinks t are_all links → AreAllLinks u are_all links
 links_stay t u same are_all links h all =
     let k = h all in
     record { each = k.each; sorted = k.sorted; found = λ q begins. same (8 ∷ q) refl ∙ k.found q begins }
 
-pub links_same : (t u : Tables) → u ≡ t → (are_all : Bool) (links : List Link) → AreLinks t are_all links → AreLinks u are_all links
-links_same t u e are_all links h = subst (λ (x : Tables). AreLinks x are_all links) (sym e) h
+pub links_same : (t u : Tables) → u ≡ t → (are_all : Bool) (links : List Link) → AreAllLinks t are_all links → AreAllLinks u are_all links
+links_same t u e are_all links h = subst (λ (x : Tables). AreAllLinks x are_all links) (sym e) h

@@ -23,7 +23,7 @@ use Rattle.bdb_tables.specs.Spans.{AreUnder, IsUnder}
 use Rattle.bdb_val.specs.GroupChanges.{mark_under, is_explicit_plus, handed_down, group_change, own_change, new_change, group_changes}
 use Rattle.bdb_val.specs.Middle.{HasExplicit}
 use Rattle.bdb_val.specs.Reads.{AreTold, AreReadUnder, is_of_group}
-use Rattle.bdb_val.specs.Settled.{Worlds, settled_mark, passed_on, is_barred}
+use Rattle.bdb_val.specs.Settled.{LinkedWorlds, settled_mark, passed_on, is_barred}
 use Rattle.bdb_val.specs.Settling.{RowChange, mark_in, barred_by, next_mark, same_mark, change_at, has_mark, fresh_change, AreNamed, row_key, keyed}
 use Rattle.bdb_val.specs.Steps.{rows_made}
 use Rattle.bdb_val.specs.declared.stored.StoredRow.{StoredRow}
@@ -113,7 +113,7 @@ one_key keys rel v a b e f =
 
 -- ---- the rows of a group, with their tuples
 
-module _ (keys : ℕ → ℕ) (stmts : List Stmt) (n : Worlds) (tuple : ℕ → Option Tuple) (f : ValKey → Option Mark) (t : Tables) (h : HasExplicit keys stmts n tuple f t) (rel : ℕ) (v : List Value) (r : IsNum rel) (p : AreKeyVals v) where
+module _ (keys : ℕ → ℕ) (stmts : List Stmt) (n : LinkedWorlds) (tuple : ℕ → Option Tuple) (f : ValKey → Option Mark) (t : Tables) (h : HasExplicit keys stmts n tuple f t) (rel : ℕ) (v : List Value) (r : IsNum rel) (p : AreKeyVals v) where
   -- rows with the tuples of their numbers
   abbrev with_tuples : (es : List (ValKey × Mark)) → AllByRecursion (HasKey keys tuple f t h.rows) es → List StoredRow
   with_tuples [] k = []

@@ -13,7 +13,7 @@ use Rattle.bdb_base.proofs.WorldLemmas.{explicit_apart}
 use Rattle.bdb_tables.specs.Marks.{Mark, sign_of, explicit_of, explicit_sign}
 use Rattle.bdb_tables.proofs.SignLemmas.{one_sign}
 use Rattle.bdb_val.specs.Settled.{passed_on, is_barred, settled_mark}
-use Rattle.bdb_val.specs.Settling.{mark_in, barred_by, AreNamed, IsGroup, AreNumbered, IsStatedAt, AreExplicit}
+use Rattle.bdb_val.specs.Settling.{mark_in, barred_by, AreNamed, IsClosedGroup, HaveTupleNumbers, IsStatedAt, AreExplicit}
 use Rattle.bdb_val.specs.Laws.{NextMarksAreSettled}
 use Rattle.bdb_val.specs.declared.stored.StoredRow.{StoredRow}
 
@@ -81,7 +81,7 @@ bars_contradict keys stmts w (x ∷ xs) t s n e = false_from_ne_true (barred_by 
     ])
 
 same_bars : (keys : ℕ → ℕ) (stmts : List Stmt) (tuple : ℕ → Option Tuple) (test : Tuple → Bool) (own : List StoredRow) (w : List ℕ)
-    → IsConsistent keys stmts → IsGroup keys test → AreNumbered tuple stmts → AreExplicit tuple test stmts w own
+    → IsConsistent keys stmts → IsClosedGroup keys test → HaveTupleNumbers tuple stmts → AreExplicit tuple test stmts w own
     → (t : Tuple) (s : Sign) → test t ≡ true → barred_by keys own t s ≡ contradicted keys stmts w t s
 same_bars keys stmts tuple test own w c g n x t s e = elim (cases_Bool (contradicted keys stmts w t s)) [
   | inl a ↦

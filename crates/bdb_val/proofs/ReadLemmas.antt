@@ -34,7 +34,7 @@ use Rattle.bdb_tables.specs.Marks.{Mark}
 use Rattle.bdb_tables.specs.Rows.{AreKeyLengths}
 use Rattle.bdb_tables.specs.GroupMarks.{group_bytes}
 use Rattle.bdb_tables.proofs.ListLemmas.{prefix_append, prefix_rest}
-use Rattle.bdb_val.specs.Settling.{mark_in, AreNamed, are_apart, row_key}
+use Rattle.bdb_val.specs.Settling.{mark_in, AreNamed, numbers_are_apart, row_key}
 use Rattle.bdb_val.specs.Reads.{AreTold, AreReadUnder, HasRows, IsSpan, world_prefix, is_of_group}
 use Rattle.bdb_val.specs.declared.stored.StoredRow.{StoredRow}
 
@@ -174,13 +174,13 @@ module _ (keys : ℕ → ℕ) (tuple : ℕ → Option Tuple) (f : ValKey → Opt
 
   apart : (prefix : List ℕ) (wid : ℕ) → ((k : ValKey) → IsValKey k → is_prefix prefix (val_bytes k) ≡ true → k.0 ≡ wid)
       → (es : List (ValKey × Mark)) (xs : List StoredRow) → AllByRecursion (IsUnder val_codec prefix) es → AllByRecursion HasKey es → ascending (entry_cmp val_codec) es ≡ true → AreTold t es xs
-      → are_apart xs ≡ true
+      → numbers_are_apart xs ≡ true
   apart prefix wid w [] [] a k s r = refl
   apart prefix wid w [] (x ∷ xs) a k s r = absurd r
   apart prefix wid w (e ∷ es) [] a k s r = absurd r
   apart prefix wid w (e ∷ es) (x ∷ xs) a k s r =
       let p = and_parts (list_all (λ y. is_lt (entry_cmp val_codec e y)) es) (ascending (entry_cmp val_codec) es) s in
-      cond-false (list_any (λ y. nat_eq y.tid x.tid) xs) false (are_apart xs) (none es xs a.1 k.1 p.0 r.1) ∙ apart prefix wid w es xs a.1 k.1 p.1 r.1
+      cond-false (list_any (λ y. nat_eq y.tid x.tid) xs) false (numbers_are_apart xs) (none es xs a.1 k.1 p.0 r.1) ∙ apart prefix wid w es xs a.1 k.1 p.1 r.1
     where
       none : (ds : List (ValKey × Mark)) (ys : List StoredRow) → AllByRecursion (IsUnder val_codec prefix) ds → AllByRecursion HasKey ds
           → list_all (λ y. is_lt (entry_cmp val_codec e y)) ds ≡ true → AreTold t ds ys → list_any (λ y. nat_eq y.tid x.tid) ys ≡ false
@@ -196,7 +196,7 @@ module _ (keys : ℕ → ℕ) (tuple : ℕ → Option Tuple) (f : ValKey → Opt
           not_below_itself (val_bytes e.0) (ap (λ (z : ValKey). is_lt (bytes_cmp (val_bytes e.0) (val_bytes z))) (sym k.0.2 ∙ sym same) ∙ here.0)))
           (none ds ys b.1 l.1 here.1 q.1)
 
-  pub read_apart : (wid : ℕ) (test : Tuple → Bool) (prefix : List ℕ) (xs : List StoredRow) → IsSpan keys wid test prefix → AreReadUnder t prefix xs → are_apart xs ≡ true
+  pub read_apart : (wid : ℕ) (test : Tuple → Bool) (prefix : List ℕ) (xs : List StoredRow) → IsSpan keys wid test prefix → AreReadUnder t prefix xs → numbers_are_apart xs ≡ true
   read_apart wid test prefix xs s r = apart prefix wid s.world r.entries xs r.under.each (keyed_under prefix r.entries r.under) r.under.sorted r.told
 
   -- rows that were read pass the test

@@ -24,8 +24,8 @@ use Rattle.bdb_tables.specs.Marks.{Mark}
 use Rattle.bdb_tables.specs.GroupMarks.{group_bytes}
 use Rattle.bdb_tables.proofs.DifferenceLemmas.{changes_differ, differences_are_counted}
 use Rattle.bdb_val.specs.Reads.{HasRows, AreReadUnder, is_of_group}
-use Rattle.bdb_val.specs.Settling.{RowChange, mark_in, settling, are_apart, are_changes_apart, row_key, keyed}
-use Rattle.bdb_val.specs.Steps.{AreSpans, IsSettling, IsStep, WritesDifferences, rows_made}
+use Rattle.bdb_val.specs.Settling.{RowChange, mark_in, settling, numbers_are_apart, are_changes_apart, row_key, keyed}
+use Rattle.bdb_val.specs.Steps.{AreBeginnings, IsSettling, IsStep, WritesDifferences, rows_made}
 use Rattle.bdb_val.specs.declared.stored.SettledWorld.{SettledWorld}
 use Rattle.bdb_val.proofs.ApartLemmas.{settling_is_apart}
 use Rattle.bdb_val.proofs.ReadLemmas.{key_fits, read_apart, group_span}
@@ -41,7 +41,7 @@ one_mark (Some m) (Some n) e = ap Some (mark_rows_are_one m n tt tt (same_some (
 pub tail_same : (n : ℕ) (j k : List ℕ) → n ∷ j ≡ n ∷ k → j ≡ k
 tail_same n j k e = cc
 
-module _ (keys : ℕ → ℕ) (tuple : ℕ → Option Tuple) (f : ValKey → Option Mark) (t : Tables) (h : HasRows keys tuple f t) (test : Tuple → Bool) (prefix : ℕ → List ℕ) (spans : AreSpans keys test prefix) (wid : ℕ) (w : IsNum wid) where
+module _ (keys : ℕ → ℕ) (tuple : ℕ → Option Tuple) (f : ValKey → Option Mark) (t : Tables) (h : HasRows keys tuple f t) (test : Tuple → Bool) (prefix : ℕ → List ℕ) (spans : AreBeginnings keys test prefix) (wid : ℕ) (w : IsNum wid) where
   -- changes of different numbers are at different places
   places_apart : (cs : List RowChange) → AllByRecursion (IsOf tuple test) cs → are_changes_apart cs ≡ true → are_distinct (map (λ x. place val_codec x.0) (map (keyed keys wid) cs)) ≡ true
   places_apart [] a e = refl
@@ -74,14 +74,14 @@ module _ (keys : ℕ → ℕ) (tuple : ℕ → Option Tuple) (f : ValKey → Opt
     of : AllByRecursion (IsOf tuple test) made
     of = made_of keys tuple f t h test prefix spans u wid link w l s
 
-    own_apart : are_apart s.own ≡ true
+    own_apart : numbers_are_apart s.own ≡ true
     own_apart = read_apart keys tuple f t h wid test (prefix wid) s.own (spans wid w) s.own_read
 
-    from_apart : are_apart s.from ≡ true
+    from_apart : numbers_are_apart s.from ≡ true
     from_apart = go link l s.from_read
       where
-        go : (o : Option ℕ) → MatchOption o (Unit {0}) IsNum → MatchOption o (s.from ≡ []) (λ m. AreReadUnder t (prefix m) s.from) → are_apart s.from ≡ true
-        go None a b = ap are_apart b
+        go : (o : Option ℕ) → MatchOption o (Unit {0}) IsNum → MatchOption o (s.from ≡ []) (λ m. AreReadUnder t (prefix m) s.from) → numbers_are_apart s.from ≡ true
+        go None a b = ap numbers_are_apart b
         go (Some m) a b = read_apart keys tuple f t h m test (prefix m) s.from (spans m a) b
 
     altered : (cs : List RowChange) → AllByRecursion (IsOf tuple test) cs → AllByRecursion (λ x. mark_in s.own x.0 ≢ x.2) cs

@@ -13,7 +13,7 @@ use Rattle.bdb_base.specs.Worlds.{explicit, stated, contradicted, IsConsistent}
 use Rattle.bdb_base.proofs.WorldLemmas.{list_any_weaker, plain_inheritance, worlds_are_consistent}
 use Rattle.bdb_paths.proofs.SuffixLemmas.{deepest_here, deepest_past}
 use Rattle.bdb_tables.specs.Marks.{sign_by, sign_in, sign_of, explicit_sign, marked, mark_of}
-use Rattle.bdb_val.specs.Settled.{passed_on, is_barred, settled_mark, Worlds, AreLinked, RowsByWorld, sign_at, IsSettled, HasStates}
+use Rattle.bdb_val.specs.Settled.{passed_on, is_barred, settled_mark, LinkedWorlds, AreLinked, RowsByWorld, sign_at, IsSettled, HasStates}
 use Rattle.bdb_val.specs.Laws.{SettledRowsAreRight, RightRowsAreSettled}
 
 -- a test of signs by its two answers
@@ -114,7 +114,7 @@ no_state : (stmts : List Stmt) (P : List ℕ → Bool) → HasStates stmts P →
 no_state stmts P h w e = false_from_ne_true (is_state stmts w) (λ s. false≢true (sym e ∙ h w s))
 
 -- a world's number has the signs of each path whose deepest suffix is its name
-signs_right : (keys : ℕ → ℕ) (stmts : List Stmt) (P : List ℕ → Bool) (n : Worlds) (t : Tuple) (f : RowsByWorld) → IsConsistent keys stmts → HasStates stmts P → AreLinked P n
+signs_right : (keys : ℕ → ℕ) (stmts : List Stmt) (P : List ℕ → Bool) (n : LinkedWorlds) (t : Tuple) (f : RowsByWorld) → IsConsistent keys stmts → HasStates stmts P → AreLinked P n
     → ((wid : ℕ) → IsSettled keys stmts n t f wid)
     → (w : List ℕ) (wid : ℕ) → n.path wid ≡ Some (deepest_suffix P w) → sign_of (f wid) ≡ sign_in keys stmts w t
 signs_right keys stmts P n t f c h l s [] wid e =

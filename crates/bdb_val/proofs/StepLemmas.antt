@@ -18,9 +18,9 @@ use Rattle.bdb_tables.specs.Writes.{IsChange, Gives, with_row_at, with_rows_at}
 use Rattle.bdb_tables.proofs.WriteLemmas.{changes_give}
 use Rattle.bdb_tables.specs.Marks.{Mark, sign_by, sign_of, explicit_of, explicit_sign}
 use Rattle.bdb_val.specs.Settled.{settled_mark, sign_at}
-use Rattle.bdb_val.specs.Settling.{RowChange, mark_in, next_mark, settling, last_mark, AreNamed, are_apart, IsGroup, AreNumbered, IsStatedAt, AreExplicit, row_key, keyed}
+use Rattle.bdb_val.specs.Settling.{RowChange, mark_in, next_mark, settling, last_mark, AreNamed, numbers_are_apart, IsClosedGroup, HaveTupleNumbers, IsStatedAt, AreExplicit, row_key, keyed}
 use Rattle.bdb_val.specs.Reads.{AreReadUnder, HasRows}
-use Rattle.bdb_val.specs.Steps.{AreSpans, IsSettling}
+use Rattle.bdb_val.specs.Steps.{AreBeginnings, IsSettling}
 use Rattle.bdb_val.specs.declared.stored.StoredRow.{StoredRow}
 use Rattle.bdb_val.proofs.NextMarks.{next_marks_are_settled}
 use Rattle.bdb_val.proofs.ReadLemmas.{one_number, read_named, read_mark, read_apart, key_fits, told_tested}
@@ -50,13 +50,13 @@ settling_of keys tuple test stored own from a b c d e f =
     (both (λ x. tuple x.tid ≡ Some x.tuple) (λ x. test x.tuple ≡ true) from c f)
 
 -- a mark that is found among rows of which no number stands twice
-pub mark_of_each : (xs all : List StoredRow) → ((tid : ℕ) (m : Mark) → mark_in xs tid ≡ Some m → mark_in all tid ≡ Some m) → are_apart xs ≡ true → AllByRecursion (λ x. mark_in all x.tid ≡ Some x.mark) xs
+pub mark_of_each : (xs all : List StoredRow) → ((tid : ℕ) (m : Mark) → mark_in xs tid ≡ Some m → mark_in all tid ≡ Some m) → numbers_are_apart xs ≡ true → AllByRecursion (λ x. mark_in all x.tid ≡ Some x.mark) xs
 mark_of_each [] all h a = tt
 mark_of_each (x ∷ xs) all h a = elim (cases_Bool (list_any (λ y. nat_eq y.tid x.tid) xs)) [
-  | inl e ↦ absurd (false≢true (sym (cond-true (list_any (λ y. nat_eq y.tid x.tid) xs) false (are_apart xs) e) ∙ a))
+  | inl e ↦ absurd (false≢true (sym (cond-true (list_any (λ y. nat_eq y.tid x.tid) xs) false (numbers_are_apart xs) e) ∙ a))
   | inr e ↦ (
     h x.tid x.mark (cond-true (nat_eq x.tid x.tid) (Some x.mark) (mark_in xs x.tid) (eq-eqb x.tid x.tid refl)),
-    mark_of_each xs all (later e) (sym (cond-false (list_any (λ y. nat_eq y.tid x.tid) xs) false (are_apart xs) e) ∙ a),
+    mark_of_each xs all (later e) (sym (cond-false (list_any (λ y. nat_eq y.tid x.tid) xs) false (numbers_are_apart xs) e) ∙ a),
   )
 ]
   where
@@ -74,7 +74,7 @@ mark_of_each (x ∷ xs) all h a = elim (cases_Bool (list_any (λ y. nat_eq y.tid
           | inr c ↦ cond-false (nat_eq y.tid i) (Some y.mark) (mark_in ys i) c ∙ absent ys i (sym (ap (λ b. b || list_any (λ z. nat_eq z.tid i) ys) c) ∙ e)
         ]
 
-module _ (keys : ℕ → ℕ) (tuple : ℕ → Option Tuple) (f : ValKey → Option Mark) (t : Tables) (h : HasRows keys tuple f t) (test : Tuple → Bool) (prefix : ℕ → List ℕ) (spans : AreSpans keys test prefix) where
+module _ (keys : ℕ → ℕ) (tuple : ℕ → Option Tuple) (f : ValKey → Option Mark) (t : Tables) (h : HasRows keys tuple f t) (test : Tuple → Bool) (prefix : ℕ → List ℕ) (spans : AreBeginnings keys test prefix) where
   -- keys of one world's rows are one where their numbers are
   same_row_key : (wid a b : ℕ) (u v : Tuple) → IsNum wid → tuple a ≡ Some u → tuple b ≡ Some v → is_eq (val_codec.key_cmp (row_key keys wid b v) (row_key keys wid a u)) ≡ nat_eq a b
   same_row_key wid a b u v w p q =
@@ -198,7 +198,7 @@ module _ (keys : ℕ → ℕ) (tuple : ℕ → Option Tuple) (f : ValKey → Opt
           )
 
       -- each tuple's row is settled afterwards, by the rows of the world to which it is linked
-      pub settled_after : IsConsistent keys stmts → IsGroup keys test → AreNumbered tuple stmts → (tid : ℕ) (x : Tuple) → tuple tid ≡ Some x → test x ≡ true
+      pub settled_after : IsConsistent keys stmts → IsClosedGroup keys test → HaveTupleNumbers tuple stmts → (tid : ℕ) (x : Tuple) → tuple tid ≡ Some x → test x ≡ true
           → rows_after (row_key keys wid tid x) ≡ settled_mark (explicit_sign stmts v x) (contradicted keys stmts v x) (sign_at (λ m. f (row_key keys m tid x)) link)
       settled_after c g n tid x k e =
           next_after tid x k e

@@ -36,8 +36,8 @@ use Rattle.bdb_tables.proofs.DifferenceLemmas.{differences_add, differences_are_
 use Rattle.bdb_val.specs.Counts.{has_none, TellsDifferences}
 use Rattle.bdb_val.specs.Groups.{HasLinks, IsUnsettled}
 use Rattle.bdb_val.specs.Reads.{HasRows, is_of_group}
-use Rattle.bdb_val.specs.Settling.{RowChange, mark_in, next_mark, settling, IsGroup, row_key, keyed}
-use Rattle.bdb_val.specs.Steps.{AreSpans, is_new, is_gone, counted}
+use Rattle.bdb_val.specs.Settling.{RowChange, mark_in, next_mark, settling, IsClosedGroup, row_key, keyed}
+use Rattle.bdb_val.specs.Steps.{AreBeginnings, is_new, is_gone, counted}
 use Rattle.bdb_val.specs.Walks.{AreLinkedTo, IsVisit, Walked, changes_of, put_by, taken_by}
 use Rattle.bdb_val.specs.Walks.Walked.{first, next}
 use Rattle.bdb_val.specs.declared.stored.Settled.{Settled}
@@ -122,7 +122,7 @@ all_weaker P Q h (x ∷ xs) a = (h x a.0, all_weaker P Q h xs a.1)
 
 -- ---- one visit
 
-module _ (keys : ℕ → ℕ) (tuple : ℕ → Option Tuple) (g : ValKey → Option Mark) (u : Tables) (h : HasRows keys tuple g u) (test : Tuple → Bool) (prefix : ℕ → List ℕ) (spans : AreSpans keys test prefix)
+module _ (keys : ℕ → ℕ) (tuple : ℕ → Option Tuple) (g : ValKey → Option Mark) (u : Tables) (h : HasRows keys tuple g u) (test : Tuple → Bool) (prefix : ℕ → List ℕ) (spans : AreBeginnings keys test prefix)
     (wid : ℕ) (w : IsNum wid) (v : Tables) (s : IsVisit keys prefix u v wid) where
   fits : MatchOption s.link (Unit {0}) IsNum
   fits = go s.link s.linked
@@ -200,7 +200,7 @@ module _ (keys : ℕ → ℕ) (tuple : ℕ → Option Tuple) (g : ValKey → Opt
 
 -- ---- the walk
 
-module _ (keys : ℕ → ℕ) (stmts : List Stmt) (ns : Names) (tuple : ℕ → Option Tuple) (test : Tuple → Bool) (prefix : ℕ → List ℕ) (names : AreNames ns) (spans : AreSpans keys test prefix) (group : IsGroup keys test)
+module _ (keys : ℕ → ℕ) (stmts : List Stmt) (ns : Names) (tuple : ℕ → Option Tuple) (test : Tuple → Bool) (prefix : ℕ → List ℕ) (names : AreNames ns) (spans : AreBeginnings keys test prefix) (group : IsClosedGroup keys test)
     (f : ValKey → Option Mark) (t : Tables) (start : ℕ) (h : IsUnsettled keys stmts ns tuple f t start test) where
   -- the path of the world at which the walk begins
   pub root : (w : List ℕ) × (path_of ns start ≡ Some w)

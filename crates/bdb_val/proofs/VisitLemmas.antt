@@ -28,8 +28,8 @@ use Rattle.bdb_val.specs.Groups.{HasLinks}
 use Rattle.bdb_val.specs.Middle.{worlds_of, HasExplicit, IsSettledAt}
 use Rattle.bdb_val.specs.Reads.{HasRows}
 use Rattle.bdb_val.specs.Settled.{settled_mark, passed_on, sign_at}
-use Rattle.bdb_val.specs.Settling.{RowChange, mark_in, settling, last_mark, IsGroup, row_key, keyed}
-use Rattle.bdb_val.specs.Steps.{AreSpans, same_signs, turns}
+use Rattle.bdb_val.specs.Settling.{RowChange, mark_in, settling, last_mark, IsClosedGroup, row_key, keyed}
+use Rattle.bdb_val.specs.Steps.{AreBeginnings, same_signs, turns}
 use Rattle.bdb_val.specs.Walks.{IsVisit, IsQuiet, changes_of}
 use Rattle.bdb_val.specs.declared.stored.StoredRow.{StoredRow}
 use Rattle.bdb_val.proofs.HeldLemmas.{names_are_linked}
@@ -157,7 +157,7 @@ quiet_each keys wid own (c ∷ cs) q tid =
       quiet_each keys wid own cs p.1 tid,
     )
 
-module _ (keys : ℕ → ℕ) (stmts : List Stmt) (ns : Names) (tuple : ℕ → Option Tuple) (test : Tuple → Bool) (prefix : ℕ → List ℕ) (names : AreNames ns) (spans : AreSpans keys test prefix) (group : IsGroup keys test)
+module _ (keys : ℕ → ℕ) (stmts : List Stmt) (ns : Names) (tuple : ℕ → Option Tuple) (test : Tuple → Bool) (prefix : ℕ → List ℕ) (names : AreNames ns) (spans : AreBeginnings keys test prefix) (group : IsClosedGroup keys test)
     (g : ValKey → Option Mark) (u v : Tables) (h : HasExplicit keys stmts (worlds_of ns) tuple g u) (links : HasLinks ns u) (wid : ℕ) (w : List ℕ) (named : path_of ns wid ≡ Some w) (s : IsVisit keys prefix u v wid) where
   number : IsNum wid
   number = h.sized wid w named

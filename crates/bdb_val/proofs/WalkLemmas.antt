@@ -35,8 +35,8 @@ use Rattle.bdb_tables.proofs.Held.{leads_is, leads_self}
 use Rattle.bdb_val.specs.Groups.{HasLinks, IsUnsettled}
 use Rattle.bdb_val.specs.Middle.{worlds_of, HasExplicit, IsSettledAt, AreSettledBut}
 use Rattle.bdb_val.specs.Reads.{is_of_group}
-use Rattle.bdb_val.specs.Settling.{IsGroup}
-use Rattle.bdb_val.specs.Steps.{AreSpans}
+use Rattle.bdb_val.specs.Settling.{IsClosedGroup}
+use Rattle.bdb_val.specs.Steps.{AreBeginnings}
 use Rattle.bdb_val.specs.Walks.{AreLinkedTo, IsVisit, IsQuiet, Walked, changes_of}
 use Rattle.bdb_val.specs.Walks.Walked.{first, next}
 use Rattle.bdb_val.proofs.HeldLemmas.{settled_rows_are_held}
@@ -110,7 +110,7 @@ rows_append : (f : ValKey → Option Mark) (xs ys : List (ValKey × Option Mark)
 rows_append f [] ys = refl
 rows_append f (x ∷ xs) ys = rows_append (with_row_at val_codec f x) xs ys
 
-module _ (keys : ℕ → ℕ) (stmts : List Stmt) (ns : Names) (tuple : ℕ → Option Tuple) (test : Tuple → Bool) (prefix : ℕ → List ℕ) (names : AreNames ns) (spans : AreSpans keys test prefix) (group : IsGroup keys test) where
+module _ (keys : ℕ → ℕ) (stmts : List Stmt) (ns : Names) (tuple : ℕ → Option Tuple) (test : Tuple → Bool) (prefix : ℕ → List ℕ) (names : AreNames ns) (spans : AreBeginnings keys test prefix) (group : IsClosedGroup keys test) where
   -- what holds in the middle of a walk: each world that is not on the list is settled
   pub record IsOnWay (g : ValKey → Option Mark) (u : Tables) (left : List ℕ) : Type 0 where
     pub explicit : HasExplicit keys stmts (worlds_of ns) tuple g u
@@ -209,7 +209,7 @@ of_same_tuple : (keys : ℕ → ℕ) (rel : ℕ) (v : List Value) (a b : Tuple) 
 of_same_tuple keys rel v a b e g = ap (is_of_group keys rel v) (sym ((same_tuple-Decides a b).0 e)) ∙ g
 
 -- a tuple that clashes with one of a group is in the group
-pub is_group : (keys : ℕ → ℕ) (rel : ℕ) (v : List Value) → IsGroup keys (is_of_group keys rel v)
+pub is_group : (keys : ℕ → ℕ) (rel : ℕ) (v : List Value) → IsClosedGroup keys (is_of_group keys rel v)
 is_group keys rel v a b Plus Plus e c =
     let k = (and_parts (same_key keys a b) (not (same_tuple a b)) c).0 in
     let p = and_parts (nat_eq a.rel b.rel) (same_values (key_of keys a) (key_of keys b)) k in

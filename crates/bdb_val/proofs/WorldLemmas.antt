@@ -34,8 +34,8 @@ use Rattle.bdb_tables.specs.Marks.{Mark, sign_by, marked, mark_of}
 use Rattle.bdb_tables.specs.Names.{Names, path_of}
 use Rattle.bdb_tables.specs.Rows.{AreKeyLengths, Tuples, HoldsTuples, HoldsRows, row_for}
 use Rattle.bdb_val.specs.Reads.{HasRows, AreReadUnder, world_prefix}
-use Rattle.bdb_val.specs.Settling.{mark_in, AreNamed, are_apart}
-use Rattle.bdb_val.specs.WorldReads.{held_row, is_before, AreInOrder, AreRowsAt}
+use Rattle.bdb_val.specs.Settling.{mark_in, AreNamed, numbers_are_apart}
+use Rattle.bdb_val.specs.WorldReads.{held_row, tuple_is_before, AreInTupleOrder, AreRowsAt}
 use Rattle.bdb_val.specs.declared.stored.StoredRow.{StoredRow}
 use Rattle.bdb_val.proofs.HeldLemmas.{held_names, right_row}
 use Rattle.bdb_val.proofs.ReadLemmas.{read_named, read_apart, read_mark, world_span}
@@ -102,13 +102,13 @@ same_rows_make_list (x ∷ xs) (y ∷ ys) a b m =
 
 -- none of these comes before the first
 abbrev none_before : Held → List Held → Bool
-none_before x ys = list_all (λ y. not (is_before y x)) ys
+none_before x ys = list_all (λ y. not (tuple_is_before y x)) ys
 
 all_by_place : (p : Held → Bool) (xs : List Held) → ((j : ℕ) (d : Held) → j < length xs → p (get_or xs j d) ≡ true) → list_all p xs ≡ true
 all_by_place p [] h = refl
 all_by_place p (x ∷ xs) h = and_from (p x) (list_all p xs) (h 0 x (omega arith)) (all_by_place p xs (λ j d lt. h (suc j) d (omega arith)))
 
-order_ascends : (xs : List Held) → ((i j : ℕ) (d : Held) → i ≤ j → j < length xs → is_before (get_or xs j d) (get_or xs i d) ≡ false) → ((u : Tuple) → length (filter (λ h. same_tuple h.tuple u) xs) ≤ 1)
+order_ascends : (xs : List Held) → ((i j : ℕ) (d : Held) → i ≤ j → j < length xs → tuple_is_before (get_or xs j d) (get_or xs i d) ≡ false) → ((u : Tuple) → length (filter (λ h. same_tuple h.tuple u) xs) ≤ 1)
     → ascending row_tuple_cmp xs ≡ true
 order_ascends [] far once = refl
 order_ascends (x ∷ xs) far once =
@@ -117,7 +117,7 @@ order_ascends (x ∷ xs) far once =
     let none : length (filter (λ h. same_tuple h.tuple u) xs) ≤ 0 =
     (let le = once u in let n : length (filter (λ h. same_tuple h.tuple u) (x ∷ xs)) ≡ suc (length (filter (λ h. same_tuple h.tuple u) xs)) = ap length here in omega (arith, le, n)) in
     and_from (list_all (λ y. is_lt (row_tuple_cmp x y)) xs) (ascending row_tuple_cmp xs)
-    (above xs (all_by_place (λ y. not (is_before y x)) xs (λ j d lt. not_from_false (is_before (get_or xs j d) x) (far 0 (suc j) d (omega arith) (omega arith)))) none)
+    (above xs (all_by_place (λ y. not (tuple_is_before y x)) xs (λ j d lt. not_from_false (tuple_is_before (get_or xs j d) x) (far 0 (suc j) d (omega arith) (omega arith)))) none)
     (order_ascends xs (λ i j d le lt. far (suc i) (suc j) d (omega arith) (omega arith)) (λ v. fewer v))
   where
     fewer : (v : Tuple) → length (filter (λ h. same_tuple h.tuple v) xs) ≤ 1
@@ -141,7 +141,7 @@ order_ascends (x ∷ xs) far once =
     above : (ys : List Held) → none_before x ys ≡ true → length (filter (λ h. same_tuple h.tuple x.tuple) ys) ≤ 0 → list_all (λ y. is_lt (row_tuple_cmp x y)) ys ≡ true
     above [] a n = refl
     above (y ∷ ys) a n =
-        let k = and_parts (not (is_before y x)) (none_before x ys) a in
+        let k = and_parts (not (tuple_is_before y x)) (none_before x ys) a in
         elim (cases_Bool (same_tuple y.tuple x.tuple)) [
           | inl e ↦
               let m : length (filter (λ h. same_tuple h.tuple x.tuple) (y ∷ ys)) ≡ suc (length (filter (λ h. same_tuple h.tuple x.tuple) ys)) = ap length (filter_kept_one (λ h. same_tuple h.tuple x.tuple) y ys e) in
@@ -187,11 +187,11 @@ has_mapped [] h = refl
 has_mapped (x ∷ xs) h = ap (λ b. same_row h (held_row x) || b) (has_mapped xs h)
 
 -- where numbers stand once, tuples do
-tuples_once : (ts : Tuples) → ((tid : ℕ) (u : Tuple) → ts.tuple tid ≡ Some u → ts.number u ≡ Some tid) → (xs : List StoredRow) → AreNamed ts.tuple xs → are_apart xs ≡ true
+tuples_once : (ts : Tuples) → ((tid : ℕ) (u : Tuple) → ts.tuple tid ≡ Some u → ts.number u ≡ Some tid) → (xs : List StoredRow) → AreNamed ts.tuple xs → numbers_are_apart xs ≡ true
     → (u : Tuple) → length (filter (λ h. same_tuple h.tuple u) (map held_row xs)) ≤ 1
 tuples_once ts named [] n a u = omega arith
 tuples_once ts named (x ∷ xs) n a u =
-    let later : are_apart xs ≡ true = apart_later (list_any (λ y. nat_eq y.tid x.tid) xs) a in
+    let later : numbers_are_apart xs ≡ true = apart_later (list_any (λ y. nat_eq y.tid x.tid) xs) a in
     elim (cases_Bool (same_tuple x.tuple u)) [
       | inr e ↦
           let k : length (filter (λ h. same_tuple h.tuple u) (map held_row (x ∷ xs))) ≡ length (filter (λ h. same_tuple h.tuple u) (map held_row xs)) = ap length (filter_dropped_one (λ h. same_tuple h.tuple u) (held_row x) (map held_row xs) e) in
@@ -201,11 +201,11 @@ tuples_once ts named (x ∷ xs) n a u =
           let r = none xs n.1 (apart_here (list_any (λ y. nat_eq y.tid x.tid) xs) refl a) e in omega (arith, k, r)
     ]
   where
-    apart_later : (b : Bool) → cond b false (are_apart xs) ≡ true → are_apart xs ≡ true
+    apart_later : (b : Bool) → cond b false (numbers_are_apart xs) ≡ true → numbers_are_apart xs ≡ true
     apart_later true e = absurd (false≢true e)
     apart_later false e = e
 
-    apart_here : (b : Bool) → list_any (λ y. nat_eq y.tid x.tid) xs ≡ b → cond b false (are_apart xs) ≡ true → list_any (λ y. nat_eq y.tid x.tid) xs ≡ false
+    apart_here : (b : Bool) → list_any (λ y. nat_eq y.tid x.tid) xs ≡ b → cond b false (numbers_are_apart xs) ≡ true → list_any (λ y. nat_eq y.tid x.tid) xs ≡ false
     apart_here true q e = absurd (false≢true e)
     apart_here false q e = q
 
@@ -233,7 +233,7 @@ module _ (keys : ℕ → ℕ) (stmts : List Stmt) (ns : Names) (ts : Tuples) (t 
   named : AreNamed ts.tuple xs
   named = read_named keys ts.tuple f t rows (world_prefix wid) xs read
 
-  apart : are_apart xs ≡ true
+  apart : numbers_are_apart xs ≡ true
   apart = read_apart keys ts.tuple f t rows wid (λ _. true) (world_prefix wid) xs (world_span keys wid n) read
 
   -- the mark of a named tuple among the rows is that of the world
@@ -284,10 +284,10 @@ module _ (keys : ℕ → ℕ) (stmts : List Stmt) (ns : Names) (ts : Tuples) (t 
       ]
 
   -- rows that are read, in order, are the world
-  pub ordered_is_world : (held : List Held) → AreInOrder xs held → held ≡ world_of keys stmts w
+  pub ordered_is_world : (held : List Held) → AreInTupleOrder xs held → held ≡ world_of keys stmts w
   ordered_is_world held o =
       same_rows_make_list held (world_of keys stmts w)
-      (order_ascends held (λ i j d le lt. sorted_far is_before (ranks_by tuple_total (λ (g : Held). g.tuple)) held o.sorted i j d le lt)
+      (order_ascends held (λ i j d le lt. sorted_far tuple_is_before (ranks_by tuple_total (λ (g : Held). g.tuple)) held o.sorted i j d le lt)
       (λ u.
       let e = filtered_moved (λ g. same_tuple g.tuple u) (map held_row xs) held o.moved in
       let le = tuples_once ts h.named xs named apart u in
@@ -298,9 +298,9 @@ module _ (keys : ℕ → ℕ) (stmts : List Stmt) (ns : Names) (ts : Tuples) (t 
       (read_are_rows xs named (mark_of_each xs xs (λ _ _ k. k) apart) g) (row_is_read g))
 
 -- what is read of a world, in order, are the rows of the world of its path
-pub read_is_world : (t : Tables) (wid : ℕ) (xs : List StoredRow) (held : List Held) → IsNum wid → AreReadUnder t (world_prefix wid) xs → AreInOrder xs held → AreRowsAt t wid held
+pub read_is_world : (t : Tables) (wid : ℕ) (xs : List StoredRow) (held : List Held) → IsNum wid → AreReadUnder t (world_prefix wid) xs → AreInTupleOrder xs held → AreRowsAt t wid held
 read_is_world t wid xs held n read o keys stmts ns ts w lengths consistent names h r path = ordered_is_world keys stmts ns ts t lengths consistent h r wid n w path xs read held o
 
 -- as many rows are shown as were read
-pub read_within : (a b : ℕ) (xs : List StoredRow) (held : List Held) → AreInOrder xs held → b ≤ a + (2 * length xs + 1) → b ≤ a + (2 * length held + 1)
+pub read_within : (a b : ℕ) (xs : List StoredRow) (held : List Held) → AreInTupleOrder xs held → b ≤ a + (2 * length xs + 1) → b ≤ a + (2 * length held + 1)
 read_within a b xs held o le = subst (λ n. b ≤ a + (2 * n + 1)) (sym (length_permutation (map held_row xs) held o.moved ∙ length_map held_row xs)) le

@@ -11,8 +11,8 @@ use Rattle.bdb_tables.specs.Names.{Names, AreNames, path_of, is_named}
 use Rattle.bdb_tables.specs.Rows.{AreKeyLengths, Tuples, HoldsTuples, HoldsRows, row_for}
 use Rattle.bdb_tables.specs.GroupMarks.{group_bytes}
 use Rattle.bdb_val.specs.Middle.{worlds_of, HasExplicit, AreSettledBut}
-use Rattle.bdb_val.specs.Settled.{settled_mark, Worlds, AreLinked, RowsByWorld, IsSettled, IsRight, HasStates}
-use Rattle.bdb_val.specs.Settling.{mark_in, next_mark, settling, last_mark, AreNamed, are_apart, are_changes_apart, IsGroup, AreNumbered, AreExplicit}
+use Rattle.bdb_val.specs.Settled.{settled_mark, LinkedWorlds, AreLinked, RowsByWorld, IsSettled, IsRight, HasStates}
+use Rattle.bdb_val.specs.Settling.{mark_in, next_mark, settling, last_mark, AreNamed, numbers_are_apart, are_changes_apart, IsClosedGroup, HaveTupleNumbers, AreExplicit}
 use Rattle.bdb_key.specs.Grammar.{IsNum, AreKeyVals}
 use Rattle.bdb_keep.specs.Seen.{Seen}
 use Rattle.bdb_base.specs.declared.kinds.Value.{Value}
@@ -22,20 +22,20 @@ use Rattle.bdb_val.specs.declared.stored.StoredRow.{StoredRow}
 
 -- where no two statements of one path clash and all rows of a tuple are settled, they are the rows of the worlds
 abbrev pub SettledRowsAreRight : Type 0
-SettledRowsAreRight = (keys : ℕ → ℕ) (stmts : List Stmt) (P : List ℕ → Bool) (n : Worlds) (t : Tuple) (f : RowsByWorld)
+SettledRowsAreRight = (keys : ℕ → ℕ) (stmts : List Stmt) (P : List ℕ → Bool) (n : LinkedWorlds) (t : Tuple) (f : RowsByWorld)
     → IsConsistent keys stmts → HasStates stmts P → AreLinked P n
     → ((wid : ℕ) → IsSettled keys stmts n t f wid) → (wid : ℕ) → IsRight keys stmts n t f wid
 
 -- where no two statements of one path clash, the rows of the worlds are settled
 abbrev pub RightRowsAreSettled : Type 0
-RightRowsAreSettled = (keys : ℕ → ℕ) (stmts : List Stmt) (P : List ℕ → Bool) (n : Worlds) (t : Tuple) (f : RowsByWorld)
+RightRowsAreSettled = (keys : ℕ → ℕ) (stmts : List Stmt) (P : List ℕ → Bool) (n : LinkedWorlds) (t : Tuple) (f : RowsByWorld)
     → IsConsistent keys stmts → HasStates stmts P → AreLinked P n
     → ((wid : ℕ) → IsRight keys stmts n t f wid) → (wid : ℕ) → IsSettled keys stmts n t f wid
 
 -- the row that a tuple is to have, by the rows that were read, is the settled one
 abbrev pub NextMarksAreSettled : Type 0
 NextMarksAreSettled = (keys : ℕ → ℕ) (stmts : List Stmt) (tuple : ℕ → Option Tuple) (test : Tuple → Bool) (own from : List StoredRow) (w : List ℕ)
-    → IsConsistent keys stmts → IsGroup keys test → AreNumbered tuple stmts → AreExplicit tuple test stmts w own
+    → IsConsistent keys stmts → IsClosedGroup keys test → HaveTupleNumbers tuple stmts → AreExplicit tuple test stmts w own
     → (tid : ℕ) (t : Tuple) → tuple tid ≡ Some t → test t ≡ true
     → next_mark keys own from tid t ≡ settled_mark (explicit_sign stmts w t) (contradicted keys stmts w t) (sign_of (mark_in from tid))
 
@@ -55,7 +55,7 @@ SettlingIsReal = (keys : ℕ → ℕ) (stored own from : List StoredRow) → All
 
 -- where no number stands twice, none is changed twice
 abbrev pub SettlingIsApart : Type 0
-SettlingIsApart = (keys : ℕ → ℕ) (stored own from : List StoredRow) → are_apart stored ≡ true → are_apart own ≡ true → are_apart from ≡ true
+SettlingIsApart = (keys : ℕ → ℕ) (stored own from : List StoredRow) → numbers_are_apart stored ≡ true → numbers_are_apart own ≡ true → numbers_are_apart from ≡ true
     → are_changes_apart (settling keys stored own from) ≡ true
 
 -- where the explicit rows are the statements and all rows are settled, the tables hold the rows of the worlds

@@ -1,3 +1,4 @@
+-- words between crates, and for private loops and lemmas
 pub mod Counts
 pub mod GroupChanges
 pub mod Groups

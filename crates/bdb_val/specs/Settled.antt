@@ -23,12 +23,12 @@ settled_mark None bars from = passed_on (is_barred bars from) from
 settled_mark (Some s) bars from = Some (s, true)
 
 -- worlds by number: the name of each, and where its suffix link leads
-pub record Worlds : Type 0 where
+pub record LinkedWorlds : Type 0 where
   pub path : ℕ → Option (List ℕ)
   pub link : ℕ → Option ℕ
 
 -- the names are in a set of paths, and each link leads to the deepest suffix, in the set, of its name's tail
-pub record AreLinked (P : List ℕ → Bool) (n : Worlds) : Type 0 where
+pub record AreLinked (P : List ℕ → Bool) (n : LinkedWorlds) : Type 0 where
   pub member : (wid : ℕ) (w : List ℕ) → n.path wid ≡ Some w → P w ≡ true
   pub root : (wid : ℕ) → n.path wid ≡ Some [] → n.link wid ≡ None
   pub link : (wid i : ℕ) (w : List ℕ) → n.path wid ≡ Some (i ∷ w) → (m : ℕ) × (n.link wid ≡ Some m) × (n.path m ≡ Some (deepest_suffix P w))
@@ -43,12 +43,12 @@ sign_at f None = None
 sign_at f (Some m) = sign_of (f m)
 
 -- a tuple's row in a world is explicit, or what the world inherits over its suffix link
-abbrev pub IsSettled : (ℕ → ℕ) → List Stmt → Worlds → Tuple → RowsByWorld → ℕ → Type 0
+abbrev pub IsSettled : (ℕ → ℕ) → List Stmt → LinkedWorlds → Tuple → RowsByWorld → ℕ → Type 0
 IsSettled keys stmts n t f wid = (w : List ℕ) → n.path wid ≡ Some w
     → f wid ≡ settled_mark (explicit_sign stmts w t) (contradicted keys stmts w t) (sign_at f (n.link wid))
 
 -- a tuple's row in a world is that of the world's name
-abbrev pub IsRight : (ℕ → ℕ) → List Stmt → Worlds → Tuple → RowsByWorld → ℕ → Type 0
+abbrev pub IsRight : (ℕ → ℕ) → List Stmt → LinkedWorlds → Tuple → RowsByWorld → ℕ → Type 0
 IsRight keys stmts n t f wid = (w : List ℕ) → n.path wid ≡ Some w → f wid ≡ mark_of keys stmts w t
 
 -- a set of paths has all states

@@ -66,9 +66,9 @@ abbrev pub AreNamed : (ℕ → Option Tuple) → List StoredRow → Type 0
 AreNamed tuple xs = AllByRecursion (λ x. tuple x.tid ≡ Some x.tuple) xs
 
 -- no number stands twice
-abbrev pub are_apart : List StoredRow → Bool
-are_apart [] = true
-are_apart (x ∷ xs) = cond (list_any (λ y. nat_eq y.tid x.tid) xs) false (are_apart xs)
+abbrev pub numbers_are_apart : List StoredRow → Bool
+numbers_are_apart [] = true
+numbers_are_apart (x ∷ xs) = cond (list_any (λ y. nat_eq y.tid x.tid) xs) false (numbers_are_apart xs)
 
 -- no number is changed twice
 abbrev pub are_changes_apart : List RowChange → Bool
@@ -76,12 +76,12 @@ are_changes_apart [] = true
 are_changes_apart (x ∷ xs) = cond (list_any (λ y. nat_eq y.0 x.0) xs) false (are_changes_apart xs)
 
 -- each tuple with which one of a group clashes is in the group
-abbrev pub IsGroup : (ℕ → ℕ) → (Tuple → Bool) → Type 0
-IsGroup keys test = (t t' : Tuple) (s s' : Sign) → test t ≡ true → clash keys t s t' s' ≡ true → test t' ≡ true
+abbrev pub IsClosedGroup : (ℕ → ℕ) → (Tuple → Bool) → Type 0
+IsClosedGroup keys test = (t t' : Tuple) (s s' : Sign) → test t ≡ true → clash keys t s t' s' ≡ true → test t' ≡ true
 
 -- each statement's tuple has a number
-abbrev pub AreNumbered : (ℕ → Option Tuple) → List Stmt → Type 0
-AreNumbered tuple stmts = (w : List ℕ) (t : Tuple) (s : Sign) → explicit stmts w t s ≡ true → (tid : ℕ) × (tuple tid ≡ Some t)
+abbrev pub HaveTupleNumbers : (ℕ → Option Tuple) → List Stmt → Type 0
+HaveTupleNumbers tuple stmts = (w : List ℕ) (t : Tuple) (s : Sign) → explicit stmts w t s ≡ true → (tid : ℕ) × (tuple tid ≡ Some t)
 
 -- a row, if it is explicit, is a statement at a path
 abbrev pub IsStatedAt : List Stmt → List ℕ → StoredRow → Type 0

@@ -6,8 +6,8 @@ use Rattle.bdb_keep.specs.Tables.{Tables}
 use Rattle.bdb_tables.specs.InUse.{ValKey}
 use Rattle.bdb_tables.specs.Marks.{Mark}
 use Rattle.bdb_val.specs.Middle.{HasExplicit}
-use Rattle.bdb_val.specs.Settled.{Worlds}
+use Rattle.bdb_val.specs.Settled.{LinkedWorlds}
 
 -- something holds, whichever statements the explicit rows of tables are, and whichever lengths keys have
 abbrev pub WhereStated : Tables → ((ℕ → ℕ) → Type 0) → Type 0
-WhereStated t P = (keys : ℕ → ℕ) (stmts : List Stmt) (n : Worlds) (tuple : ℕ → Option Tuple) (f : ValKey → Option Mark) → HasExplicit keys stmts n tuple f t → P keys
+WhereStated t P = (keys : ℕ → ℕ) (stmts : List Stmt) (n : LinkedWorlds) (tuple : ℕ → Option Tuple) (f : ValKey → Option Mark) → HasExplicit keys stmts n tuple f t → P keys

@@ -20,8 +20,8 @@ use Rattle.bdb_val.specs.declared.stored.StoredRow.{StoredRow}
 use Rattle.bdb_val.specs.declared.stored.SettledWorld.{SettledWorld}
 
 -- in each world a beginning of keys is that of the tuples that pass a test
-abbrev pub AreSpans : (ℕ → ℕ) → (Tuple → Bool) → (ℕ → List ℕ) → Type 0
-AreSpans keys test prefix = (wid : ℕ) → IsNum wid → IsSpan keys wid test (prefix wid)
+abbrev pub AreBeginnings : (ℕ → ℕ) → (Tuple → Bool) → (ℕ → List ℕ) → Type 0
+AreBeginnings keys test prefix = (wid : ℕ) → IsNum wid → IsSpan keys wid test (prefix wid)
 
 -- the changes of rows that settle a world whose rows are `own`, over those of the world to which it is linked
 abbrev pub rows_made : (ℕ → ℕ) → ℕ → List StoredRow → List StoredRow → List (ValKey × Option Mark)

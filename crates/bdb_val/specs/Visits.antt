@@ -35,8 +35,8 @@ abbrev pub leads_to : ℕ → (ℕ × ℕ) × Unit {0} → Bool
 leads_to wid e = nat_eq (led_to e) wid
 
 -- where links were read, they are all that the tables have
-abbrev pub AreLinks : Tables → Bool → List ((ℕ × ℕ) × Unit {0}) → Type 0
-AreLinks t are_all links = are_all ≡ true → AreUnder linked_codec t [] links
+abbrev pub AreAllLinks : Tables → Bool → List ((ℕ × ℕ) × Unit {0}) → Type 0
+AreAllLinks t are_all links = are_all ≡ true → AreUnder linked_codec t [] links
 
 -- the links that lead to a world come at the end of a list
 pub record ArePushed (t : Tables) (wid : ℕ) (before after : List (ℕ × ℕ)) : Type 0 where

@@ -43,9 +43,9 @@ pub record IsRowCount (t : Tables) (wid : ℕ) (n : ℕ) : Type 0 where
   pub many : n ≡ length rows
 
 -- a world has no row
-abbrev pub IsBare : Tables → ℕ → Type 0
-IsBare t wid = (k : ValKey) → IsValKey k → k.0 ≡ wid → tables.get t (place val_codec k) ≡ None
+abbrev pub IsBareWorld : Tables → ℕ → Type 0
+IsBareWorld t wid = (k : ValKey) → IsValKey k → k.0 ≡ wid → tables.get t (place val_codec k) ≡ None
 
 -- where the world to which rows were copied had none, so many came, each by one write
 abbrev pub TellsCopy : Seen → Seen → ℕ → ℕ → Type 0
-TellsCopy old new to n = IsBare old.kept to → TellsDifferences old new n 0
+TellsCopy old new to n = IsBareWorld old.kept to → TellsDifferences old new n 0

@@ -16,13 +16,13 @@ abbrev pub held_row : StoredRow → Held
 held_row x = record { tuple = x.tuple; sign = x.mark.0; explicit = x.mark.1 }
 
 -- the tuple of a row comes before that of another
-abbrev pub is_before : Held → Held → Bool
-is_before a b = is_lt (row_tuple_cmp a b)
+abbrev pub tuple_is_before : Held → Held → Bool
+tuple_is_before a b = is_lt (row_tuple_cmp a b)
 
 -- these are the rows of a world, and none comes before the one in front of it
-pub record AreInOrder (rows : List StoredRow) (held : List Held) : Type 0 where
+pub record AreInTupleOrder (rows : List StoredRow) (held : List Held) : Type 0 where
   pub moved : IsPermutation (map held_row rows) held
-  pub sorted : IsSortedBy is_before held
+  pub sorted : IsSortedBy tuple_is_before held
 
 -- whichever statements they are whose rows the tables hold, and whichever lengths keys have, these are the rows of the world of the path that the number names
 abbrev pub AreRowsAt : Tables → ℕ → List Held → Type 0

@@ -7,7 +7,7 @@ ghost use Rattle.bdb_tables.specs.Codec.{IsKeyOf};
 ghost use Rattle.bdb_tables.specs.Grammar.{InGrammar};
 ghost use Rattle.bdb_tables.specs.InUse.{linked_codec};
 ghost use Rattle.bdb_tables.specs.Spans.{AreEntriesOf};
-ghost use Rattle.bdb_val.specs.Visits.{AreLinks, PushesRead, leads_to, led_to, turned_round};
+ghost use Rattle.bdb_val.specs.Visits.{AreAllLinks, PushesRead, leads_to, led_to, turned_round};
 
 use bdb_keep::{Keeper, Span};
 use bdb_key::KeyError;
@@ -31,7 +31,7 @@ pub fn read_links<K: Keeper>(alloc: Global, keeper: &mut K, wid: u32) -> Result<
     requires running { (K.seen keeper.old).running ≡ true }
     requires grammar { InGrammar (K.seen keeper.old).kept }
     ensures links { IfOk result
-        (λ links. AreLinks (K.seen keeper.old).kept links.are_all links.list.items) }
+        (λ links. AreAllLinks (K.seen keeper.old).kept links.are_all links.list.items) }
     ensures read { IsRead (K.seen keeper.old) (K.seen keeper.new) result TabError.Fault }
 {
     if wid != 0 {

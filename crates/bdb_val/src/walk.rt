@@ -13,7 +13,7 @@ ghost use Rattle.bdb_val.specs.Reads.{HaveTuples};
 ghost use Rattle.bdb_val.specs.Rooms.{IsRoomFor};
 ghost use Rattle.bdb_val.specs.Stated.{WhereStated};
 ghost use Rattle.bdb_val.specs.Steps.{counted, IsChanging};
-ghost use Rattle.bdb_val.specs.Visits.{AreLinks, ArePushed, IsFirstVisit, IsNextVisit};
+ghost use Rattle.bdb_val.specs.Visits.{AreAllLinks, ArePushed, IsFirstVisit, IsNextVisit};
 
 use crate::links::{Links, leads_none, push_found, push_read, read_links};
 use crate::room::{LinkRoom, WalkRoom};
@@ -73,7 +73,7 @@ fn settle_from<K: Keeper>(
     requires grammar { InGrammar (K.seen keeper.old).kept }
     requires tuples { HaveTuples (K.seen keeper.old).kept }
     requires text { HaveKeyTexts key.now }
-    requires links { AreLinks (K.seen keeper.old).kept links.now.are_all links.now.list.items }
+    requires links { AreAllLinks (K.seen keeper.old).kept links.now.are_all links.now.list.items }
     ensures settled { OnOk result
         (SettlesGroup (K.seen keeper.old).kept (K.seen keeper.new).kept wid rel key.now) }
     ensures tells { IfOk result
@@ -128,7 +128,7 @@ fn visit_first<K: Keeper>(
     requires grammar { InGrammar (K.seen keeper.old).kept }
     requires tuples { HaveTuples (K.seen keeper.old).kept }
     requires text { HaveKeyTexts key.now }
-    requires links { AreLinks (K.seen keeper.old).kept links.now.are_all links.now.list.items }
+    requires links { AreAllLinks (K.seen keeper.old).kept links.now.are_all links.now.list.items }
     requires room { IsRoomFor (K.seen keeper.old).kept rel key.now room.old.group.prefix.items
         room.old.handed.from room.old.handed.rows.items
         room.old.handed.singles.items }
@@ -176,7 +176,7 @@ fn visit_next<K: Keeper>(
     requires grammar { InGrammar (K.seen keeper.old).kept }
     requires tuples { HaveTuples (K.seen keeper.old).kept }
     requires text { HaveKeyTexts key.now }
-    requires links { AreLinks (K.seen keeper.old).kept links.now.are_all links.now.list.items }
+    requires links { AreAllLinks (K.seen keeper.old).kept links.now.are_all links.now.list.items }
     requires room { IsRoomFor (K.seen keeper.old).kept rel key.now room.old.group.prefix.items
         room.old.handed.from room.old.handed.rows.items
         room.old.handed.singles.items }
@@ -220,7 +220,7 @@ fn push_linked<K: Keeper>(
 ) -> Result<(), TabError>
     requires running { (K.seen keeper.old).running ≡ true }
     requires grammar { InGrammar (K.seen keeper.old).kept }
-    requires links { AreLinks (K.seen keeper.old).kept links.now.are_all links.now.list.items }
+    requires links { AreAllLinks (K.seen keeper.old).kept links.now.are_all links.now.list.items }
     ensures pushed { OnOk result
         (ArePushed (K.seen keeper.old).kept wid list.old.items list.new.items) }
     ensures read { IsRead (K.seen keeper.old) (K.seen keeper.new) result TabError.Fault }

@@ -4,7 +4,7 @@ ghost use Rattle.bdb_base.specs.Order.{tuple_cmp};
 ghost use Rattle.bdb_keep.specs.Calls.{IsRead};
 ghost use Rattle.bdb_tables.specs.Grammar.{InGrammar};
 ghost use Rattle.bdb_val.specs.Reads.{HaveTuples};
-ghost use Rattle.bdb_val.specs.WorldReads.{AreInOrder, AreRowsAt, held_row};
+ghost use Rattle.bdb_val.specs.WorldReads.{AreInTupleOrder, AreRowsAt, held_row};
 
 use crate::reading::read_world;
 use crate::stored::StoredRow;
@@ -40,7 +40,7 @@ pub fn world_at<K: Keeper>(alloc: Global, keeper: &mut K, wid: u32) -> Result<Wo
 
 // Rows as those of a world, in the order of their tuples.
 fn in_order(alloc: Global, rows: Vec<StoredRow>) -> Result<World, AllocError>
-    ensures { IfOk result (λ world. AreInOrder rows.items world.held) }
+    ensures { IfOk result (λ world. AreInTupleOrder rows.items world.held) }
 {
     let mut held = held_rows(alloc, rows)?;
     held.sort_by(by_tuple)?;

@@ -25,7 +25,7 @@ use Rattle.bdb_base.proofs.ListLemmas.{length-filter_le}
 use Rattle.bdb_base.proofs.SetLemmas.{put_all_is_ascending}
 use Rattle.bdb_keep.specs.Seen.{Seen}
 use Rattle.bdb_keep.specs.Tables.{Tables}
-use Rattle.bdb_key.specs.Grammar.{IsNum, IsWhole, IsPlainValue, ArePlain, AreKeyVals}
+use Rattle.bdb_key.specs.Grammar.{IsNum, HasEightBytes, IsPlainValue, ArePlain, AreKeyVals}
 use Rattle.bdb_tables.specs.InUse.{val_codec}
 use Rattle.bdb_tables.specs.Lengths.{IsKeyLength}
 use Rattle.bdb_tables.specs.Names.{Names, path_of}
@@ -48,20 +48,20 @@ use Rattle.bdb_why.proofs.NearSetLemmas.{both_are_near, made}
 
 -- ---- the values of a tuple that fits its relation are plain
 
-kind_plain : (k : Kind) (v : Value) → fits_kind k v ≡ true → IsWhole v → IsPlainValue v
+kind_plain : (k : Kind) (v : Value) → fits_kind k v ≡ true → HasEightBytes v → IsPlainValue v
 kind_plain kind.Int (Int n) e w = w
 kind_plain kind.Int (Text t) e w = absurd (false≢true e)
 kind_plain kind.Text (Int n) e w = absurd (false≢true e)
 kind_plain kind.Text (Text t) e w = e
 
-columns_plain : (n : ℕ) (cs : List ColDef) (vs : List Value) → fits_columns cs vs ≡ true → AllByRecursion IsWhole (take n vs) → ArePlain (take n vs)
+columns_plain : (n : ℕ) (cs : List ColDef) (vs : List Value) → fits_columns cs vs ≡ true → AllByRecursion HasEightBytes (take n vs) → ArePlain (take n vs)
 columns_plain zero cs vs e w = tt
 columns_plain (suc n) cs [] e w = tt
 columns_plain (suc n) [] (v ∷ vs) e w = absurd (false≢true e)
 columns_plain (suc n) (c ∷ cs) (v ∷ vs) e w =
     let k = and_parts (fits_kind c.kind v) (fits_columns cs vs) e in (kind_plain c.kind v k.0 w.0, columns_plain n cs vs k.1 w.1)
 
-key_plain : (rels : List RelDef) (n : ℕ) (u : Tuple) → fits_relation rels u ≡ true → AllByRecursion IsWhole (take n u.vals) → ArePlain (take n u.vals)
+key_plain : (rels : List RelDef) (n : ℕ) (u : Tuple) → fits_relation rels u ≡ true → AllByRecursion HasEightBytes (take n u.vals) → ArePlain (take n u.vals)
 key_plain rels n u e w = by (slice_get rels u.rel) e
   where
     by : (o : Option RelDef) → fits_definition o u.vals ≡ true → ArePlain (take n u.vals)
@@ -90,7 +90,7 @@ relation_small rels u few e =
 twice : (a b n m k : ℕ) → b ≤ a + (n + m + 1) → m ≤ n → n ≤ k → b ≤ a + (2 * k + 1)
 twice a b n m k le few within = omega arith
 
-module _ (t : Tables) (wid : ℕ) (w : List ℕ) (u : Tuple) (b : Contents) (h : StoresValid t b) (whole : AllByRecursion IsWhole (key_of (keys_of b) u))
+module _ (t : Tables) (wid : ℕ) (w : List ℕ) (u : Tuple) (b : Contents) (h : StoresValid t b) (whole : AllByRecursion HasEightBytes (key_of (keys_of b) u))
     (fits : fits_relation b.catalog.rels u ≡ true) (path : path_of h.stored.names wid ≡ Some w) where
   abbrev ns : Names
   ns = h.stored.names
@@ -157,14 +157,14 @@ module _ (t : Tables) (wid : ℕ) (w : List ℕ) (u : Tuple) (b : Contents) (h :
 
 -- ---- whichever base it is
 
-module _ (old mid new : Seen) (again : mid.kept ≡ old.kept) (wid : ℕ) (w : List ℕ) (u : Tuple) (n : ℕ) (long : IsKeyLength old.kept u.rel n) (whole : AllByRecursion IsWhole (key_of (λ _. n) u))
+module _ (old mid new : Seen) (again : mid.kept ≡ old.kept) (wid : ℕ) (w : List ℕ) (u : Tuple) (n : ℕ) (long : IsKeyLength old.kept u.rel n) (whole : AllByRecursion HasEightBytes (key_of (λ _. n) u))
     (said denied : List Tuple) (say : AreTuplesRead old mid (group_bytes wid u.rel (key_of (λ _. n) u)) Plus said) (deny : AreTuplesRead mid new (group_bytes wid u.rel (key_of (λ _. n) u)) Minus denied) where
   module _ (b : Contents) (h : StoresValid old.kept b) where
     own_key : key_of (λ _. n) u ≡ key_of (keys_of b) u
     own_key = key_by_length (keys_of b) n u (long b.catalog.rels h.stored.stored.rels)
 
-    own_whole : AllByRecursion IsWhole (key_of (keys_of b) u)
-    own_whole = subst (AllByRecursion IsWhole) own_key whole
+    own_whole : AllByRecursion HasEightBytes (key_of (keys_of b) u)
+    own_whole = subst (AllByRecursion HasEightBytes) own_key whole
 
     own_say : AreTuplesRead old mid (group_bytes wid u.rel (key_of (keys_of b) u)) Plus said
     own_say = subst (λ (vs : List Value). AreTuplesRead old mid (group_bytes wid u.rel vs) Plus said) own_key say

@@ -10,7 +10,7 @@ use Rattle.bdb_tables.specs.States.{HoldsStates}
 use Rattle.bdb_names.proofs.NameLemmas.{deep_number, depth_at, link_at}
 use Rattle.bdb_worlds.specs.Holding.{Worlds}
 use Rattle.bdb_worlds.proofs.ReadLemmas.{depth_read, link_read}
-use Rattle.bdb_why.specs.Reading.{HasDepth, LinksTo, SomeHaveLink, SomeHaveState}
+use Rattle.bdb_why.specs.Reading.{LinksTo, SomeHaveLink, SomeHaveState, StandsForDepth}
 
 -- a number that stands for a path is one of four bytes
 number_small : (ns : Names) → AreNames ns → (n : ℕ) (w : List ℕ) → path_of ns n ≡ Some w → n < 2 ^ 32
@@ -29,7 +29,7 @@ link_is t s h n i w e found has = link_read t _ _ _ h.tables n (number_small s.n
 pub depth_is_there : (t : Tables) (n : ℕ) → SomeHaveState t n → HasAt depth_codec t n None → ⊥
 depth_is_there t n some has = none_is_some (length some.path) (depth_is t some.worlds some.states n some.path some.named None has)
 
-pub depth_found : (t : Tables) (n d : ℕ) → HasAt depth_codec t n (Some d) → HasDepth t n d
+pub depth_found : (t : Tables) (n d : ℕ) → HasAt depth_codec t n (Some d) → StandsForDepth t n d
 depth_found t n d has s h w e = same_some d (length w) (depth_is t s h n w e (Some d) has)
 
 -- ---- links
@@ -50,7 +50,7 @@ link_has_state t n m some has =
       named = some.states.names.numbered v m (sym (link_is t s some.states n some.user some.rest some.named (Some m) has));
     }
 
-pub link_leads : (t : Tables) (n m d : ℕ) → HasAt link_codec t n (Some m) → HasDepth t m d → LinksTo t n (m, d)
+pub link_leads : (t : Tables) (n m d : ℕ) → HasAt link_codec t n (Some m) → StandsForDepth t m d → LinksTo t n (m, d)
 link_leads t n m d has deep s h i w e =
     let v = deepest_suffix (is_named s.names) w in
     let number : number_of s.names v ≡ Some m = sym (link_is t s h n i w e (Some m) has) in

@@ -29,7 +29,7 @@ use Rattle.bdb_why.specs.declared.kinds.Ground.{Ground}
 use Rattle.bdb_why.specs.declared.kinds.Ground.TheVariants.{Nowhere}
 use Rattle.bdb_why.specs.declared.kinds.Ruled.{Ruled}
 use Rattle.bdb_why.specs.Certificates.{is_rival_near, rivals, ruled_of, considered, why_by}
-use Rattle.bdb_why.specs.Ends.{ends, ends_in, is_near, near_at}
+use Rattle.bdb_why.specs.Ends.{ends, ends_in, is_at_an_end, near_at}
 use Rattle.bdb_why.specs.Grounds.{ground_by, ground_from, ground_of}
 use Rattle.bdb_why.specs.WhyLaws.{NearIsAtStates, WhyDependsOnNear}
 use Rattle.bdb_why.proofs.RivalLemmas.{one_key, rival_clashes, rivals_all, same_key_itself}
@@ -79,20 +79,20 @@ ground_near keys stmts t N n (i ∷ v) u s h k =
     ∙ ap (λ o. ground_by (explicit stmts (i ∷ v) u s) o n rest) (least_near keys stmts t N (i ∷ v) u s h k)
     ∙ ap (ground_by (explicit stmts (i ∷ v) u s) (least_clash keys stmts (i ∷ v) u s) n) (ground_near keys stmts t N (n + 1) v u s (keeps_tail keys t N i v h) k)
 
-near_kept : (keys : ℕ → ℕ) (w : List ℕ) (t : Tuple) → KeepsNear keys t (is_near keys w t) w
+near_kept : (keys : ℕ → ℕ) (w : List ℕ) (t : Tuple) → KeepsNear keys t (is_at_an_end keys w t) w
 near_kept keys w t x e k = and_from (is_suffix x.path w) (same_key keys t x.tuple) e k
 
-rivals_near : (keys : ℕ → ℕ) (stmts : List Stmt) (w : List ℕ) (t : Tuple) → rivals keys (filter (is_near keys w t) stmts) w t ≡ rivals keys stmts w t
-rivals_near keys stmts w t = ap (λ xs. sorted_set tuple_cmp (map (λ x. x.tuple) xs)) (filter_kept (is_rival_near keys w t) (is_near keys w t)
+rivals_near : (keys : ℕ → ℕ) (stmts : List Stmt) (w : List ℕ) (t : Tuple) → rivals keys (filter (is_at_an_end keys w t) stmts) w t ≡ rivals keys stmts w t
+rivals_near keys stmts w t = ap (λ xs. sorted_set tuple_cmp (map (λ x. x.tuple) xs)) (filter_kept (is_rival_near keys w t) (is_at_an_end keys w t)
     (λ x e. and_from (is_suffix x.path w) (same_key keys t x.tuple) (and_parts (is_suffix x.path w) (same_sign x.sign Plus && clash keys t Plus x.tuple Plus) e).0
     (clash_is_of_key keys t x.tuple Plus Plus (rival_clashes keys w t x e))) stmts)
 
-considered_near : (keys : ℕ → ℕ) (stmts : List Stmt) (w : List ℕ) (t : Tuple) (s : Sign) → considered keys (filter (is_near keys w t) stmts) w t s ≡ considered keys stmts w t s
+considered_near : (keys : ℕ → ℕ) (stmts : List Stmt) (w : List ℕ) (t : Tuple) (s : Sign) → considered keys (filter (is_at_an_end keys w t) stmts) w t s ≡ considered keys stmts w t s
 considered_near keys stmts w t Plus = refl
 considered_near keys stmts w t Minus =
-    let near = filter (is_near keys w t) stmts in
+    let near = filter (is_at_an_end keys w t) stmts in
     let same : (u : Tuple) → same_key keys t u ≡ true → ruled_of keys near w u ≡ ruled_of keys stmts w u =
-    λ u k. ap (λ g. ruled u g) (ground_near keys stmts t (is_near keys w t) 0 w u Plus (near_kept keys w t) k) in
+    λ u k. ap (λ g. ruled u g) (ground_near keys stmts t (is_at_an_end keys w t) 0 w u Plus (near_kept keys w t) k) in
     ap (map (ruled_of keys near w)) (rivals_near keys stmts w t)
     ∙ map_same_all (ruled_of keys near w) (ruled_of keys stmts w) (same_key keys t) same (rivals keys stmts w t)
     (rivals_all keys stmts w t (same_key keys t) (λ u c. clash_is_of_key keys t u Plus Plus c))
@@ -102,8 +102,8 @@ considered_near keys stmts w t Minus =
 
 pub why_depends_on_near : WhyDependsOnNear
 why_depends_on_near keys stmts w t s =
-    let near = filter (is_near keys w t) stmts in
-    ap (λ g. why_by g (considered keys near w t s)) (ground_near keys stmts t (is_near keys w t) 0 w t s (near_kept keys w t) (same_key_itself keys t))
+    let near = filter (is_at_an_end keys w t) stmts in
+    ap (λ g. why_by g (considered keys near w t s)) (ground_near keys stmts t (is_at_an_end keys w t) 0 w t s (near_kept keys w t) (same_key_itself keys t))
     ∙ ap (why_by (ground_of keys stmts w t s)) (considered_near keys stmts w t s)
 
 -- ---- the states among the ends
@@ -138,18 +138,18 @@ module _ (keys : ℕ → ℕ) (stmts : List Stmt) (w : List ℕ) (t : Tuple) (z 
   at_state v = is_state stmts v && list_any (is_here keys t z v) stmts
 
   abbrev near : Stmt → Bool
-  near x = is_near keys w t x && is_eq (statement_cmp x z)
+  near x = is_at_an_end keys w t x && is_eq (statement_cmp x z)
 
   here_is_near : (v : List ℕ) → is_suffix v w ≡ true → (x : Stmt) → is_here keys t z v x ≡ true → near x ≡ true
   here_is_near v h x e =
       let k = and_parts (same_path x.path v && same_key keys t x.tuple) (is_eq (statement_cmp x z)) e in
       let m = and_parts (same_path x.path v) (same_key keys t x.tuple) k.0 in
-      and_from (is_near keys w t x) (is_eq (statement_cmp x z))
+      and_from (is_at_an_end keys w t x) (is_eq (statement_cmp x z))
       (and_from (is_suffix x.path w) (same_key keys t x.tuple) (ap (λ u. is_suffix u w) ((same_path-Decides x.path v).0 m.0) ∙ h) m.1) k.1
 
   near_is_here : (x : Stmt) → near x ≡ true → is_here keys t z x.path x ≡ true
   near_is_here x e =
-      let k = and_parts (is_near keys w t x) (is_eq (statement_cmp x z)) e in
+      let k = and_parts (is_at_an_end keys w t x) (is_eq (statement_cmp x z)) e in
       and_from (same_path x.path x.path && same_key keys t x.tuple) (is_eq (statement_cmp x z))
       (and_from (same_path x.path x.path) (same_key keys t x.tuple) ((same_path-Decides x.path x.path).1 refl) (and_parts (is_suffix x.path w) (same_key keys t x.tuple) k.0).1) k.1
 
@@ -161,24 +161,24 @@ module _ (keys : ℕ → ℕ) (stmts : List Stmt) (w : List ℕ) (t : Tuple) (z 
   from_near : list_any near stmts ≡ true → list_any at_state (ends w) ≡ true
   from_near e =
       let x = found_member same_statement same_statement_itself near stmts e in
-      let k = and_parts (is_near keys w t x.0) (is_eq (statement_cmp x.0 z)) x.2 in
+      let k = and_parts (is_at_an_end keys w t x.0) (is_eq (statement_cmp x.0 z)) x.2 in
       ends_have at_state w x.0.path (and_parts (is_suffix x.0.path w) (same_key keys t x.0.tuple) k.0).0
       (and_from (is_state stmts x.0.path) (list_any (is_here keys t z x.0.path) stmts) (path_is_state stmts x.0.path x.0 x.1 refl)
       (list_any_weaker (same_statement x.0) (is_here keys t z x.0.path)
       (λ y a. ap (is_here keys t z x.0.path) (sym ((same_statement-Decides x.0 y).0 a)) ∙ near_is_here x.0 x.2) stmts x.1))
 
-  pub near_members : list_any (λ v. is_state stmts v && list_any (is_here keys t z v) stmts) (ends w) ≡ list_any (λ x. is_near keys w t x && is_eq (statement_cmp x z)) stmts
+  pub near_members : list_any (λ v. is_state stmts v && list_any (is_here keys t z v) stmts) (ends w) ≡ list_any (λ x. is_at_an_end keys w t x && is_eq (statement_cmp x z)) stmts
   near_members = same_tests (list_any at_state (ends w)) (list_any near stmts) into_near from_near
 
 pub near_is_at_states : NearIsAtStates
 near_is_at_states keys stmts h w t =
     let found = flat_map (near_at keys stmts t) (ends_in (is_state stmts) w) in
-    members_make_set statement_exact (sorted_set statement_cmp found) (filter (is_near keys w t) stmts)
-    (set_is_ascending statement_exact found) (filter_keeps_order statement_exact (is_near keys w t) stmts h)
+    members_make_set statement_exact (sorted_set statement_cmp found) (filter (is_at_an_end keys w t) stmts)
+    (set_is_ascending statement_exact found) (filter_keeps_order statement_exact (is_at_an_end keys w t) stmts h)
     (λ z. set_keeps_members statement_exact found z
     ∙ list_any-flat_map (λ y. is_eq (statement_cmp y z)) (near_at keys stmts t) (ends_in (is_state stmts) w)
     ∙ list_any_same (λ v. list_any (λ y. is_eq (statement_cmp y z)) (near_at keys stmts t v)) (λ v. list_any (is_here keys t z v) stmts)
     (λ v. list_any-filter (λ y. is_eq (statement_cmp y z)) (λ x. same_path x.path v && same_key keys t x.tuple) stmts) (ends_in (is_state stmts) w)
     ∙ list_any-filter (λ v. list_any (is_here keys t z v) stmts) (is_state stmts) (ends w)
     ∙ near_members keys stmts w t z
-    ∙ sym (list_any-filter (λ y. is_eq (statement_cmp y z)) (is_near keys w t) stmts))
+    ∙ sym (list_any-filter (λ y. is_eq (statement_cmp y z)) (is_at_an_end keys w t) stmts))

@@ -25,7 +25,7 @@ use Rattle.bdb_worlds.specs.Bounds.{EndsWithin}
 use Rattle.bdb_worlds.specs.Holding.{EndsAt, HoldSome, Worlds}
 use Rattle.bdb_catalog.specs.Bases.{SomeHasUsers}
 use Rattle.bdb_catalog.proofs.StoredFacts.{path_grammar, path_states, path_tuples}
-use Rattle.bdb_why.specs.Ends.{ends_in, is_near, near_at}
+use Rattle.bdb_why.specs.Ends.{ends_in, is_at_an_end, near_at}
 use Rattle.bdb_why.specs.Reading.{LinksTo, PutsNear, ReadsHere, SomeHaveLink}
 use Rattle.bdb_why.specs.Stored.{AreNear, MayAsk, SomeMayAsk, reads_at}
 use Rattle.bdb_why.proofs.EndLemmas.{ends_here, ends_past}
@@ -57,7 +57,7 @@ reads_end keys stmts u w = sum_by (reads_at keys stmts u) (ends_in (is_state stm
 
 -- the statements near the rest of a path make of those so far all that are near the path
 abbrev pub LeftNear : Tables → List ℕ → Tuple → List ℕ → List Stmt → Type 0
-LeftNear t path u rest xs = (b : Contents) → MayAsk t path u b → put_all statement_cmp xs (near_end (keys_of b) b.stmts u rest) ≡ filter (is_near (keys_of b) path u) b.stmts
+LeftNear t path u rest xs = (b : Contents) → MayAsk t path u b → put_all statement_cmp xs (near_end (keys_of b) b.stmts u rest) ≡ filter (is_at_an_end (keys_of b) path u) b.stmts
 
 -- the reads so far and those for the rest of a path are no more than those for the path, and one
 abbrev pub LeftReads : Tables → List ℕ → Tuple → List ℕ → ℕ → ℕ → Type 0

@@ -21,8 +21,8 @@ ends_behind P None = []
 ends_behind P (Some v) = ends_in P v
 
 -- a statement at an end of the path has the tuple's relation and key
-abbrev pub is_near : (ℕ → ℕ) → List ℕ → Tuple → Stmt → Bool
-is_near keys w t x = is_suffix x.path w && same_key keys t x.tuple
+abbrev pub is_at_an_end : (ℕ → ℕ) → List ℕ → Tuple → Stmt → Bool
+is_at_an_end keys w t x = is_suffix x.path w && same_key keys t x.tuple
 
 -- the statements of this very path that have the tuple's relation and key
 abbrev pub near_at : (ℕ → ℕ) → List Stmt → Tuple → List ℕ → List Stmt

@@ -34,8 +34,8 @@ pub record SomeHaveLink (t : Tables) (wid : ℕ) : Type 0 where
   pub named : path_of worlds.names wid ≡ Some (user ∷ rest)
 
 -- whichever states the tables hold, the number stands for a path of so many users
-abbrev pub HasDepth : Tables → ℕ → ℕ → Type 0
-HasDepth t wid depth = (s : Worlds) → HoldsStates s.users s.names t → (w : List ℕ) → path_of s.names wid ≡ Some w → depth ≡ length w
+abbrev pub StandsForDepth : Tables → ℕ → ℕ → Type 0
+StandsForDepth t wid depth = (s : Worlds) → HoldsStates s.users s.names t → (w : List ℕ) → path_of s.names wid ≡ Some w → depth ≡ length w
 
 -- whichever states the tables hold, the suffix link of the number's path leads to this world
 abbrev pub LinksTo : Tables → ℕ → ℕ × ℕ → Type 0

@@ -14,7 +14,7 @@ use Rattle.bdb_worlds.specs.Bounds.{EndsWithin}
 use Rattle.bdb_catalog.specs.Bases.{HasUsers}
 use Rattle.bdb_why.specs.declared.kinds.Why.{Why}
 use Rattle.bdb_why.specs.Certificates.{why_of}
-use Rattle.bdb_why.specs.Ends.{ends_in, is_near}
+use Rattle.bdb_why.specs.Ends.{ends_in, is_at_an_end}
 
 -- tables store a valid base, among whose users are those of a path, and a relation of which a tuple fits
 pub record MayAsk (t : Tables) (path : List ℕ) (u : Tuple) (b : Contents) : Type 0 where
@@ -32,7 +32,7 @@ IsWhyOf t path u s y = (b : Contents) → MayAsk t path u b → y ≡ why_of (ke
 
 -- whichever base it is, these are its statements near the path
 abbrev pub AreNear : Tables → List ℕ → Tuple → List Stmt → Type 0
-AreNear t path u xs = (b : Contents) → MayAsk t path u b → xs ≡ filter (is_near (key_lengths b.catalog.rels) path u) b.stmts
+AreNear t path u xs = (b : Contents) → MayAsk t path u b → xs ≡ filter (is_at_an_end (key_lengths b.catalog.rels) path u) b.stmts
 
 -- ---- how much is read
 

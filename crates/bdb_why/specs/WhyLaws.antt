@@ -15,7 +15,7 @@ use Rattle.bdb_base.specs.Worlds.{stated, believes, IsConsistent}
 use Rattle.bdb_why.specs.declared.kinds.Why.{Why}
 use Rattle.bdb_why.specs.Accepting.{accepts}
 use Rattle.bdb_why.specs.Certificates.{why_of, says}
-use Rattle.bdb_why.specs.Ends.{ends_in, ends_behind, is_near, near_at}
+use Rattle.bdb_why.specs.Ends.{ends_in, ends_behind, is_at_an_end, near_at}
 use Rattle.bdb_why.specs.Grounds.{ground_from, ground_of, is_found}
 
 -- a signed tuple's ground is found exactly where the path's world has it
@@ -58,9 +58,9 @@ EndsGoByLinks = (P : List ℕ → Bool) (w : List ℕ) → P [] ≡ true → end
 -- the statements near a path are those at the states among its ends
 abbrev pub NearIsAtStates : Type 0
 NearIsAtStates = (keys : ℕ → ℕ) (stmts : List Stmt) → ascending statement_cmp stmts ≡ true → (w : List ℕ) (t : Tuple)
-    → sorted_set statement_cmp (flat_map (near_at keys stmts t) (ends_in (is_state stmts) w)) ≡ filter (is_near keys w t) stmts
+    → sorted_set statement_cmp (flat_map (near_at keys stmts t) (ends_in (is_state stmts) w)) ≡ filter (is_at_an_end keys w t) stmts
 
 -- a certificate depends on the statements near the path alone
 abbrev pub WhyDependsOnNear : Type 0
 WhyDependsOnNear = (keys : ℕ → ℕ) (stmts : List Stmt) (w : List ℕ) (t : Tuple) (s : Sign)
-    → why_of keys (filter (is_near keys w t) stmts) w t s ≡ why_of keys stmts w t s
+    → why_of keys (filter (is_at_an_end keys w t) stmts) w t s ≡ why_of keys stmts w t s

@@ -2,7 +2,7 @@
 ghost use Rattle.std.specs.Prelude.{◌+◌, ◌≤◌, IfOk, OnOk};
 ghost use Rattle.bdb_keep.specs.Calls.{IsRead};
 ghost use Rattle.bdb_tables.specs.Grammar.{InGrammar};
-ghost use Rattle.bdb_why.specs.Reading.{HasDepth, LinksTo, SomeHaveLink, SomeHaveState};
+ghost use Rattle.bdb_why.specs.Reading.{LinksTo, SomeHaveLink, SomeHaveState, StandsForDepth};
 
 use bdb_keep::Keeper;
 use bdb_tables::{DepthTab, SuffixTab, TabError, get};
@@ -31,7 +31,7 @@ pub fn next_end<K: Keeper>(alloc: Global, keeper: &mut K, wid: u32) -> Result<(u
 fn depth_of<K: Keeper>(alloc: Global, keeper: &mut K, wid: u32) -> Result<u32, TabError>
     requires grammar { InGrammar (K.seen keeper.old).kept }
     requires state { SomeHaveState (K.seen keeper.old).kept wid }
-    ensures depth { IfOk result (HasDepth (K.seen keeper.old).kept wid) }
+    ensures depth { IfOk result (StandsForDepth (K.seen keeper.old).kept wid) }
     ensures reads { OnOk result ((K.seen keeper.new).reads ≤ (K.seen keeper.old).reads + 1) }
     ensures read { IsRead (K.seen keeper.old) (K.seen keeper.new) result TabError.Fault }
 {

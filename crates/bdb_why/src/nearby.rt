@@ -7,7 +7,7 @@ ghost use Rattle.bdb_base.specs.SortedSet.{ascending, put_all};
 ghost use Rattle.bdb_base.specs.SameLemmas.{statement_of};
 ghost use Rattle.bdb_keep.specs.Calls.{IsRead};
 ghost use Rattle.bdb_keep.specs.Seen.{NeverFall, Steps};
-ghost use Rattle.bdb_key.specs.Grammar.{IsNum, IsWhole};
+ghost use Rattle.bdb_key.specs.Grammar.{HasEightBytes, IsNum};
 ghost use Rattle.bdb_tables.specs.Grammar.{InGrammar};
 ghost use Rattle.bdb_tables.specs.Lengths.{IsKeyLength};
 ghost use Rattle.bdb_tables.specs.GroupMarks.{group_bytes};
@@ -154,7 +154,7 @@ fn put_group(prefix: &mut Vec<u8>, wid: u32, rel: u32, key: &[Value]) -> Result<
     requires { IsNum (length key.now) }
     ensures bytes { OnOk result
         (prefix.new.items ≡ prefix.old.items ++ group_bytes wid rel key.now) }
-    ensures whole { OnOk result (AllByRecursion IsWhole key.now) }
+    ensures whole { OnOk result (AllByRecursion HasEightBytes key.now) }
 {
     put_num(prefix, wid)?;
     put_num(prefix, rel)?;

@@ -1,3 +1,4 @@
+-- what other public promises and laws are made of
 pub mod Beliefs
 pub mod Changes
 pub mod Keys

@@ -24,7 +24,7 @@ use Rattle.bdb_names.proofs.LessLemmas.{depths_less, links_less, edges_less, nam
 use Rattle.bdb_names.proofs.NameLemmas.{same_number, edge_found, link_found}
 use Rattle.bdb_names.proofs.NamedLemmas.{cases_end}
 use Rattle.bdb_names.proofs.TurnedLemmas.{link_set_is, edge_set_is, tables_same, same_edge_is}
-use Rattle.bdb_worlds.specs.Dropping.{pairs_led, edges_dropped, state_dropped, pairs_of, kids_of, edges_of, AreWorldRows, without_state, IsDroppedState, DropTakesState}
+use Rattle.bdb_worlds.specs.Dropping.{pairs_led, edges_dropped, state_dropped, pairs_of, kids_of, edges_in_rows, AreWorldRows, without_state, IsDroppedState, DropTakesState}
 use Rattle.bdb_worlds.specs.Holding.{Worlds}
 use Rattle.bdb_worlds.proofs.ReadLemmas.{link_read}
 use Rattle.bdb_worlds.proofs.UnderLemmas.{is_pair, are_pairs_once, kids_are, kids_sized, kids_once, pairs_are, pairs_sized, pairs_once, edges_are, edges_sized, edges_once}
@@ -157,7 +157,7 @@ module _ (w : Worlds) (t : Tables) (h : HoldsStates w.users w.names t) (p : List
     ks = kids_of linked
 
     abbrev xs : List (ℕ × ℕ)
-    xs = edges_of own
+    xs = edges_in_rows own
 
     abbrev edge : ℕ × ℕ → Option ℕ
     edge = edge_of w.users ms

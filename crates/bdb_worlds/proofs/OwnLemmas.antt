@@ -17,7 +17,7 @@ use Rattle.bdb_tables.specs.Spans.{AreUnder}
 use Rattle.bdb_tables.specs.States.{HoldsStates}
 use Rattle.bdb_names.specs.Turned.{look}
 use Rattle.bdb_names.proofs.NameLemmas.{edge_found}
-use Rattle.bdb_worlds.specs.Dropping.{edges_of}
+use Rattle.bdb_worlds.specs.Dropping.{edges_in_rows}
 use Rattle.bdb_worlds.specs.Holding.{Worlds}
 use Rattle.bdb_worlds.specs.Owns.{IsNextEdge, HasNextEdge, IsOwnEdge, AreOwnEdges, FindsEdges, edge_beside, edges_beside}
 use Rattle.bdb_worlds.proofs.ReadLemmas.{le_parts, le_same, le_number, none_unless}
@@ -106,15 +106,15 @@ module _ (uid : ℕ) where
   none_if false o e = refl
 
   -- the edge for a user among those that are left
-  beside_looked : (es : List ((ℕ × ℕ) × ℕ)) (j : ℕ) → look (edges_beside uid es) j ≡ cond (nat_eq j uid) None (look (edges_of es) j)
+  beside_looked : (es : List ((ℕ × ℕ) × ℕ)) (j : ℕ) → look (edges_beside uid es) j ≡ cond (nat_eq j uid) None (look (edges_in_rows es) j)
   beside_looked [] j = none_if (nat_eq j uid) None refl
   beside_looked (e ∷ es) j =
       ap (λ (xs : List (ℕ × ℕ)). look xs j) (beside_more e es)
       ∙ looked_if (nat_eq e.0.1 uid) (e.0.1, e.1) (edges_beside uid es) j
-      ∙ chosen (nat_eq e.0.1 uid) (nat_eq j e.0.1) (nat_eq j uid) (Some e.1) (look (edges_of es) j) (look (edges_beside uid es) j)
+      ∙ chosen (nat_eq e.0.1 uid) (nat_eq j e.0.1) (nat_eq j uid) (Some e.1) (look (edges_in_rows es) j) (look (edges_beside uid es) j)
       (λ p. ap (nat_eq j) (eqb-true e.0.1 uid p)) (λ p q. ap (λ k. nat_eq k uid) (eqb-true j e.0.1 q) ∙ p) (beside_looked es j)
 
-  beside_sized : (es : List ((ℕ × ℕ) × ℕ)) → AllByRecursion IsOwnEdge (edges_of es) → AllByRecursion IsOwnEdge (edges_beside uid es)
+  beside_sized : (es : List ((ℕ × ℕ) × ℕ)) → AllByRecursion IsOwnEdge (edges_in_rows es) → AllByRecursion IsOwnEdge (edges_beside uid es)
   beside_sized [] h = tt
   beside_sized (e ∷ es) h = subst (AllByRecursion IsOwnEdge) (sym (beside_more e es)) (by (nat_eq e.0.1 uid) (beside_sized es h.1))
     where
@@ -123,22 +123,22 @@ module _ (uid : ℕ) where
       by false k = (h.0, k)
 
   -- a user who has no edge has none among those that are left
-  beside_unlisted : (es : List ((ℕ × ℕ) × ℕ)) (k : ℕ) → is_listed k (users_of (edges_of es)) ≡ false → is_listed k (users_of (edges_beside uid es)) ≡ false
+  beside_unlisted : (es : List ((ℕ × ℕ) × ℕ)) (k : ℕ) → is_listed k (users_of (edges_in_rows es)) ≡ false → is_listed k (users_of (edges_beside uid es)) ≡ false
   beside_unlisted [] k h = refl
   beside_unlisted (e ∷ es) k h =
-      let p = or_parts (nat_eq k e.0.1) (is_listed k (users_of (edges_of es))) h in
+      let p = or_parts (nat_eq k e.0.1) (is_listed k (users_of (edges_in_rows es))) h in
       ap (λ (xs : List (ℕ × ℕ)). is_listed k (users_of xs)) (beside_more e es) ∙ by (nat_eq e.0.1 uid) p.0 (beside_unlisted es k p.1)
     where
       by : (b : Bool) → nat_eq k e.0.1 ≡ false → is_listed k (users_of (edges_beside uid es)) ≡ false → is_listed k (users_of (cond b (edges_beside uid es) ((e.0.1, e.1) ∷ edges_beside uid es))) ≡ false
       by true f g = g
       by false f g = or_from (nat_eq k e.0.1) (is_listed k (users_of (edges_beside uid es))) f g
 
-  beside_once : (es : List ((ℕ × ℕ) × ℕ)) → are_once (users_of (edges_of es)) ≡ true → are_once (users_of (edges_beside uid es)) ≡ true
+  beside_once : (es : List ((ℕ × ℕ) × ℕ)) → are_once (users_of (edges_in_rows es)) ≡ true → are_once (users_of (edges_beside uid es)) ≡ true
   beside_once [] h = refl
   beside_once (e ∷ es) h =
-      let p = and_parts (not (is_listed e.0.1 (users_of (edges_of es)))) (are_once (users_of (edges_of es))) h in
+      let p = and_parts (not (is_listed e.0.1 (users_of (edges_in_rows es)))) (are_once (users_of (edges_in_rows es))) h in
       ap (λ (xs : List (ℕ × ℕ)). are_once (users_of xs)) (beside_more e es)
-      ∙ by (nat_eq e.0.1 uid) (beside_unlisted es e.0.1 (not-true (is_listed e.0.1 (users_of (edges_of es))) p.0)) (beside_once es p.1)
+      ∙ by (nat_eq e.0.1 uid) (beside_unlisted es e.0.1 (not-true (is_listed e.0.1 (users_of (edges_in_rows es))) p.0)) (beside_once es p.1)
     where
       by : (b : Bool) → is_listed e.0.1 (users_of (edges_beside uid es)) ≡ false → are_once (users_of (edges_beside uid es)) ≡ true
           → are_once (users_of (cond b (edges_beside uid es) ((e.0.1, e.1) ∷ edges_beside uid es))) ≡ true
@@ -168,13 +168,13 @@ edges_found t wid uid es edges fits under is s h = subst (AreOwnEdges s.users s.
   once = beside_once uid es (edges_once t wid fits es under.each under.sorted);
 })
   where
-    sized : AllByRecursion IsOwnEdge (edges_of es)
+    sized : AllByRecursion IsOwnEdge (edges_in_rows es)
     sized = edges_sized t wid fits es under.each
 
-    led : (j : ℕ) → look (edges_of es) j ≡ edge_of s.users s.names (wid, j)
+    led : (j : ℕ) → look (edges_in_rows es) j ≡ edge_of s.users s.names (wid, j)
     led j = elim (cases_lt j (2 ^ 32)) [
       | inl small ↦ edges_are t wid fits (edge_of s.users s.names) h.tables.edge es under j small
       | inr large ↦
           let other : IsNum j → ⊥ = λ k. absurd (omega arith) in
-          none_looked (edges_of es) j other sized ∙ sym (no_edge s t h wid j other)
+          none_looked (edges_in_rows es) j other sized ∙ sym (no_edge s t h wid j other)
     ]

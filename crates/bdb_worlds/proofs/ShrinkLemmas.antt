@@ -21,7 +21,7 @@ use Rattle.bdb_tables.specs.Names.{Names, AreNames, path_of, number_of, is_named
 use Rattle.bdb_tables.specs.States.{HoldsStates}
 use Rattle.bdb_names.proofs.NameLemmas.{is_named_by, deep_number, link_at}
 use Rattle.bdb_names.proofs.Ends.{length_more}
-use Rattle.bdb_worlds.specs.Dropping.{IsDropped}
+use Rattle.bdb_worlds.specs.Dropping.{IsDroppedWithin}
 use Rattle.bdb_worlds.specs.Holding.{Worlds, HoldSome}
 use Rattle.bdb_worlds.specs.Reach.{LeadsDeep, HasDeepTarget}
 use Rattle.bdb_worlds.specs.Shrinking.{IsNoState, AreNumbersAlong, AreAlong, without_prefixes, IsDead, AreDead, as_root, as_needed, HasShrunk, DropsStates, LeavesOthers}
@@ -247,7 +247,7 @@ module _ (t u : Tables) (path numbers gone : List ℕ) (left : ℕ) (some : 0 < 
         stays = as_needed n number (needed_back t u ms p n outside (needed ws p now.states number (let l = long in omega arith)));
       }
 
-      module _ (deeper : ℕ) (deep : deeper ≡ left + 1) (needless : TellsNeeded u n deeper false) (v : Tables) (before after : ℕ) (dropped : IsDropped u v n before after) where
+      module _ (deeper : ℕ) (deep : deeper ≡ left + 1) (needless : TellsNeeded u n deeper false) (v : Tables) (before after : ℕ) (dropped : IsDroppedWithin u v n before after) where
         free : IsNeeded u ms p n → ⊥
         free = needless ws p now.states number (let l = long in omega arith)
 
@@ -312,7 +312,7 @@ module _ (t u : Tables) (path numbers gone : List ℕ) (left : ℕ) (some : 0 < 
   pub shrinking_stops : (n at deeper : ℕ) → left ≡ at + 1 → n ≡ get_or numbers at 0 → deeper ≡ left + 1 → TellsNeeded u n deeper true → DropsStates t u path gone
   shrinking_stops n at deeper here is deep needed s h own named = shrunk_here s h own n at here is deeper deep needed
 
-  pub shrinking_more : (n at deeper : ℕ) → left ≡ at + 1 → n ≡ get_or numbers at 0 → deeper ≡ left + 1 → TellsNeeded u n deeper false → (v : Tables) (before after : ℕ) → IsDropped u v n before after
+  pub shrinking_more : (n at deeper : ℕ) → left ≡ at + 1 → n ≡ get_or numbers at 0 → deeper ≡ left + 1 → TellsNeeded u n deeper false → (v : Tables) (before after : ℕ) → IsDroppedWithin u v n before after
       → (more : List ℕ) → more ≡ gone ++ n ∷ [] → Shrinking t v path numbers more at
   shrinking_more n at deeper here is deep needless v before after dropped more e s h own = shrunk_more s h own n at here is deeper deep needless v before after dropped more e
 
@@ -339,8 +339,8 @@ shrinking_at t u v path numbers gone left e h = subst (λ x. Shrinking t x path 
 pub needed_then : (t u : Tables) (n deeper : ℕ) (b c : Bool) → u ≡ t → b ≡ c → TellsNeeded u n deeper b → TellsNeeded t n deeper c
 needed_then t u n deeper b c e f h = subst (TellsNeeded t n deeper) f (subst (λ x. TellsNeeded x n deeper b) e h)
 
-pub dropped_then : (t u v : Tables) (n before now : ℕ) → u ≡ t → IsDropped u v n before now → IsDropped t v n before now
-dropped_then t u v n before now e h = subst (λ x. IsDropped x v n before now) e h
+pub dropped_then : (t u v : Tables) (n before now : ℕ) → u ≡ t → IsDroppedWithin u v n before now → IsDroppedWithin t v n before now
+dropped_then t u v n before now e h = subst (λ x. IsDroppedWithin x v n before now) e h
 
 pub drops_at : (t u v : Tables) (path gone : List ℕ) → u ≡ t → DropsStates u v path gone → DropsStates t v path gone
 drops_at t u v path gone e h = subst (λ x. DropsStates x v path gone) e h

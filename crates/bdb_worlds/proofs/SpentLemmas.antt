@@ -23,7 +23,7 @@ use Rattle.bdb_names.proofs.NameLemmas.{same_number, number_is, link_found, link
 use Rattle.bdb_keep.specs.Seen.{Seen}
 use Rattle.bdb_names.proofs.TurnedLemmas.{same_edge_is}
 use Rattle.bdb_worlds.specs.Bounds.{EndsWithin, WritesWithin}
-use Rattle.bdb_worlds.specs.Dropping.{pairs_of, kids_of, edges_of, IsDropped}
+use Rattle.bdb_worlds.specs.Dropping.{pairs_of, kids_of, edges_in_rows, IsDroppedWithin}
 use Rattle.bdb_worlds.specs.Holding.{Worlds, HoldSome}
 use Rattle.bdb_worlds.specs.Shrinking.{without_prefixes}
 use Rattle.bdb_worlds.specs.Staying.{TellsNeeded}
@@ -300,7 +300,7 @@ gone_still users ns ms n p (at_led a k j) g = absurd g
 
 -- one state more goes
 module _ (s : Worlds) (t : Tables) (h : HoldsStates s.users s.names t) (ns : Names) (u : Tables) (hu : HoldsStates s.users ns u) (path : List ℕ) (left at n : ℕ) (here : left ≡ at + 1) (inside : at < length path)
-    (number : number_of ns (take left path) ≡ Some n) (last : (i : ℕ) → is_named ns (take left path ++ i ∷ []) ≡ false) (v : Tables) (before now : ℕ) (dropped : IsDropped u v n before now) where
+    (number : number_of ns (take left path) ≡ Some n) (last : (i : ℕ) → is_named ns (take left path ++ i ∷ []) ≡ false) (v : Tables) (before now : ℕ) (dropped : IsDroppedWithin u v n before now) where
   abbrev p : List ℕ
   p = take left path
 
@@ -338,7 +338,7 @@ module _ (s : Worlds) (t : Tables) (h : HoldsStates s.users s.names t) (ns : Nam
   ks = kids_of dropped.state.linked_rows
 
   abbrev xs : List (ℕ × ℕ)
-  xs = edges_of dropped.state.edge_rows
+  xs = edges_in_rows dropped.state.edge_rows
 
   es_once : are_pairs_once es ≡ true
   es_once = pairs_once u n size dropped.state.led_rows dropped.state.rows.led.each dropped.state.rows.led.sorted
@@ -521,7 +521,7 @@ spending_begins t path gone left before e s h own =
 
 pub spending_more : (t u : Tables) (path numbers gone : List ℕ) (left : ℕ) (some : 0 < left) (outside : SameElsewhere t u) (shrinking : Shrinking t u path numbers gone left)
     (n at deeper : ℕ) (here : left ≡ at + 1) (is : n ≡ get_or numbers at 0) (deep : deeper ≡ left + 1) (needless : TellsNeeded u n deeper false)
-    (v : Tables) (before now : ℕ) (dropped : IsDropped u v n before now) (more : List ℕ) → more ≡ gone ++ n ∷ [] → (first : ℕ) → Spending t path gone left first before → Spending t path more at first now
+    (v : Tables) (before now : ℕ) (dropped : IsDroppedWithin u v n before now) (more : List ℕ) → more ≡ gone ++ n ∷ [] → (first : ℕ) → Spending t path gone left first before → Spending t path more at first now
 spending_more t u path numbers gone left some outside shrinking n at deeper here is deep needless v before now dropped more e first spending s h own =
     let ms = without_prefixes s.names path (length path) gone in
     let w = (shrinking s h own).whole in

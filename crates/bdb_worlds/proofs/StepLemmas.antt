@@ -10,7 +10,7 @@ use Rattle.bdb_names.proofs.ListedLemmas.{listed_get}
 use Rattle.bdb_names.proofs.MoveLemmas.{edge_moves_parts}
 use Rattle.bdb_names.proofs.NameLemmas.{link_found}
 use Rattle.bdb_names.proofs.SearchLemmas.{IsSearch, search_begins, search_child, search_next, search_ends}
-use Rattle.bdb_worlds.specs.Finds.{HasNextChild, IsNextChild, IsVisit, FindsMovers}
+use Rattle.bdb_worlds.specs.Finds.{HasNextChild, IsNextChild, IsChildRead, FindsMovers}
 use Rattle.bdb_worlds.specs.Holding.{Worlds}
 use Rattle.bdb_worlds.proofs.ReadLemmas.{edge_read, linked_is, not_linked}
 
@@ -33,8 +33,8 @@ link_size users ns t h k v e = let l = link_found ns k v e in path_size users ns
 pub child_at : (t u : Tables) (v low : ℕ) (o p : Option ℕ) → u ≡ t → o ≡ p → HasNextChild u v low o → HasNextChild t v low p
 child_at t u v low o p e f h = subst (HasNextChild t v low) f (subst (λ x. HasNextChild x v low o) e h)
 
-pub visit_at : (t u : Tables) (c uid from : ℕ) (ss ms ss' ms' : List ℕ) → u ≡ t → IsVisit u c uid from ss ms ss' ms' → IsVisit t c uid from ss ms ss' ms'
-visit_at t u c uid from ss ms ss' ms' e h = subst (λ x. IsVisit x c uid from ss ms ss' ms') e h
+pub visit_at : (t u : Tables) (c uid from : ℕ) (ss ms ss' ms' : List ℕ) → u ≡ t → IsChildRead u c uid from ss ms ss' ms' → IsChildRead t c uid from ss ms ss' ms'
+visit_at t u c uid from ss ms ss' ms' e h = subst (λ x. IsChildRead x c uid from ss ms ss' ms') e h
 
 module _ (t : Tables) (start uid from : ℕ) where
   pub searching_from : (ss ms : List ℕ) → ss ≡ start ∷ [] → ms ≡ [] → Searching t start uid from ss ms 0 0
@@ -50,7 +50,7 @@ module _ (t : Tables) (start uid from : ℕ) where
         let e = edge_moves_parts s.users s.names q uid start from leaf v moves in
         path_size s.users s.names t h v e.front e.path
 
-    child_is : (c : ℕ) (ss' ms' : List ℕ) → IsNextChild t v low c → IsVisit t c uid from ss ms ss' ms'
+    child_is : (c : ℕ) (ss' ms' : List ℕ) → IsNextChild t v low c → IsChildRead t c uid from ss ms ss' ms'
         → (s : Worlds) (q : List ℕ) → HoldsStates s.users s.names t → (leaf : IsLeaf s.users s.names q uid start from) → IsSearch s.users s.names q uid start from leaf ss' ms' at (suc c)
     child_is c ss' ms' child visit s q h leaf =
         let size = source_size s q h leaf in
@@ -63,7 +63,7 @@ module _ (t : Tables) (start uid from : ℕ) where
         subst (λ a. IsSearch s.users s.names q uid start from leaf a ms' at (suc c)) (sym visit.noted)
         (subst (λ b. IsSearch s.users s.names q uid start from leaf (sources_after visit.edge from c ss) b at (suc c)) (sym visit.moved) next)
 
-    pub searching_child : (c high : ℕ) (ss' ms' : List ℕ) → high ≡ c + 1 → HasNextChild t v low (Some c) → IsVisit t c uid from ss ms ss' ms' → Searching t start uid from ss' ms' at high
+    pub searching_child : (c high : ℕ) (ss' ms' : List ℕ) → high ≡ c + 1 → HasNextChild t v low (Some c) → IsChildRead t c uid from ss ms ss' ms' → Searching t start uid from ss' ms' at high
     searching_child c high ss' ms' e child visit s q h leaf =
         let n : suc c ≡ high = omega arith in
         subst (λ k. IsSearch s.users s.names q uid start from leaf ss' ms' at k) n (child_is c ss' ms' child visit s q h leaf)

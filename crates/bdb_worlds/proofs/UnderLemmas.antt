@@ -24,7 +24,7 @@ use Rattle.bdb_tables.specs.Writes.{Gives}
 use Rattle.bdb_tables.proofs.ListLemmas.{prefix_append}
 use Rattle.bdb_names.specs.Turned.{look, same_edge}
 use Rattle.bdb_names.proofs.TurnedLemmas.{pair_eq, triple_eq}
-use Rattle.bdb_worlds.specs.Dropping.{pairs_of, kids_of, edges_of}
+use Rattle.bdb_worlds.specs.Dropping.{pairs_of, kids_of, edges_in_rows}
 
 -- ---- any table
 
@@ -192,33 +192,33 @@ module _ (t : Tables) (n : ℕ) (fits : IsNum n) where
   own_first : (e : (ℕ × ℕ) × ℕ) → IsUnder edge_codec (num_bytes n) e → e.0.0 ≡ n
   own_first e u = number_begins n e.0.0 (num_bytes e.0.1) fits u.key.first u.begins
 
-  edges_looked : (es : List ((ℕ × ℕ) × ℕ)) (j : ℕ) → AllByRecursion (IsUnder edge_codec (num_bytes n)) es → look (edges_of es) j ≡ row_in edge_codec pairs_in_order es (n, j)
+  edges_looked : (es : List ((ℕ × ℕ) × ℕ)) (j : ℕ) → AllByRecursion (IsUnder edge_codec (num_bytes n)) es → look (edges_in_rows es) j ≡ row_in edge_codec pairs_in_order es (n, j)
   edges_looked [] j each = refl
   edges_looked (e ∷ es) j each =
       let first : nat_eq n e.0.0 ≡ true = eq-eqb n e.0.0 (sym (own_first e each.0)) in
       let test : is_eq (edge_codec.key_cmp (n, j) e.0) ≡ nat_eq j e.0.1 = pair_eq (n, j) e.0 ∙ ap (λ b. b && nat_eq j e.0.1) first in
       ap (λ o. cond (nat_eq j e.0.1) (Some e.1) o) (edges_looked es j each.1) ∙ ap (λ b. cond b (Some e.1) (row_in edge_codec pairs_in_order es (n, j))) (sym test)
 
-  pub edges_are : (f : ℕ × ℕ → Option ℕ) → Gives edge_codec t f → (es : List ((ℕ × ℕ) × ℕ)) → AreUnder edge_codec t (num_bytes n) es → (j : ℕ) → IsNum j → look (edges_of es) j ≡ f (n, j)
+  pub edges_are : (f : ℕ × ℕ → Option ℕ) → Gives edge_codec t f → (es : List ((ℕ × ℕ) × ℕ)) → AreUnder edge_codec t (num_bytes n) es → (j : ℕ) → IsNum j → look (edges_in_rows es) j ≡ f (n, j)
   edges_are f h es under j fj =
       edges_looked es j under.each
       ∙ under_is edge_codec pairs_in_order number_rows_are_one t f h (num_bytes n) es under (n, j) (record { first = fits; second = fj }) (prefix_append (num_bytes n) (num_bytes j))
 
-  pub edges_sized : (es : List ((ℕ × ℕ) × ℕ)) → AllByRecursion (IsUnder edge_codec (num_bytes n)) es → AllByRecursion (λ x. IsNum x.0 × IsNum x.1) (edges_of es)
+  pub edges_sized : (es : List ((ℕ × ℕ) × ℕ)) → AllByRecursion (IsUnder edge_codec (num_bytes n)) es → AllByRecursion (λ x. IsNum x.0 × IsNum x.1) (edges_in_rows es)
   edges_sized [] each = tt
   edges_sized (e ∷ es) each = ((each.0.key.second, each.0.row), edges_sized es each.1)
 
-  pub edges_once : (es : List ((ℕ × ℕ) × ℕ)) → AllByRecursion (IsUnder edge_codec (num_bytes n)) es → ascending (entry_cmp edge_codec) es ≡ true → are_once (map (λ x. x.0) (edges_of es)) ≡ true
+  pub edges_once : (es : List ((ℕ × ℕ) × ℕ)) → AllByRecursion (IsUnder edge_codec (num_bytes n)) es → ascending (entry_cmp edge_codec) es ≡ true → are_once (map (λ x. x.0) (edges_in_rows es)) ≡ true
   edges_once [] each sorted = refl
   edges_once (e ∷ es) each sorted =
       let s = and_parts (list_all (λ d. is_lt (entry_cmp edge_codec e d)) es) (ascending (entry_cmp edge_codec) es) sorted in
-      and_from (not (is_listed e.0.1 (map (λ x. x.0) (edges_of es)))) (are_once (map (λ x. x.0) (edges_of es))) (ap not (none es each.1 s.0)) (edges_once es each.1 s.1)
+      and_from (not (is_listed e.0.1 (map (λ x. x.0) (edges_in_rows es)))) (are_once (map (λ x. x.0) (edges_in_rows es))) (ap not (none es each.1 s.0)) (edges_once es each.1 s.1)
     where
-      none : (ds : List ((ℕ × ℕ) × ℕ)) → AllByRecursion (IsUnder edge_codec (num_bytes n)) ds → list_all (λ d. is_lt (entry_cmp edge_codec e d)) ds ≡ true → is_listed e.0.1 (map (λ x. x.0) (edges_of ds)) ≡ false
+      none : (ds : List ((ℕ × ℕ) × ℕ)) → AllByRecursion (IsUnder edge_codec (num_bytes n)) ds → list_all (λ d. is_lt (entry_cmp edge_codec e d)) ds ≡ true → is_listed e.0.1 (map (λ x. x.0) (edges_in_rows ds)) ≡ false
       none [] f l = refl
       none (d ∷ ds) f l =
           let p = and_parts (is_lt (entry_cmp edge_codec e d)) (list_all (λ x. is_lt (entry_cmp edge_codec e x)) ds) l in
           let first : nat_eq e.0.0 d.0.0 ≡ true = eq-eqb e.0.0 d.0.0 (own_first e each.0 ∙ sym (own_first d f.0)) in
           let other : nat_eq e.0.1 d.0.1 ≡ false =
           ap (λ b. b && nat_eq e.0.1 d.0.1) (sym first) ∙ sym (pair_eq e.0 d.0) ∙ sym (ap is_eq (pairs_in_order e.0 d.0 each.0.key f.0.key)) ∙ earlier_differs (pair_bytes e.0) (pair_bytes d.0) p.0 in
-          or_from (nat_eq e.0.1 d.0.1) (is_listed e.0.1 (map (λ x. x.0) (edges_of ds))) other (none ds f.1 p.1)
+          or_from (nat_eq e.0.1 d.0.1) (is_listed e.0.1 (map (λ x. x.0) (edges_in_rows ds))) other (none ds f.1 p.1)

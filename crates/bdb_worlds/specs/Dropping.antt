@@ -34,8 +34,8 @@ abbrev pub kids_of : List ((ℕ × ℕ) × Unit {0}) → List ℕ
 kids_of rows = map (λ r. r.0.1) rows
 
 -- the edges of a world, from its rows
-abbrev pub edges_of : List ((ℕ × ℕ) × ℕ) → List (ℕ × ℕ)
-edges_of rows = map (λ r. (r.0.1, r.1)) rows
+abbrev pub edges_in_rows : List ((ℕ × ℕ) × ℕ) → List (ℕ × ℕ)
+edges_in_rows rows = map (λ r. (r.0.1, r.1)) rows
 
 -- The rows of a world: where its suffix link leads, what leads to it, and its own edges.
 pub record AreWorldRows (t : Tables) (n s : ℕ) (edges : List ((ℕ × ℕ × ℕ) × Unit {0})) (links : List ((ℕ × ℕ) × Unit {0})) (own : List ((ℕ × ℕ) × ℕ)) : Type 0 where
@@ -55,7 +55,7 @@ pub record IsDroppedState (t u : Tables) (n : ℕ) : Type 0 where
   pub linked_rows : List ((ℕ × ℕ) × Unit {0})
   pub edge_rows : List ((ℕ × ℕ) × ℕ)
   pub rows : AreWorldRows t n link led_rows linked_rows edge_rows
-  pub made : u ≡ without_state t n link (pairs_of led_rows) (kids_of linked_rows) (edges_of edge_rows)
+  pub made : u ≡ without_state t n link (pairs_of led_rows) (kids_of linked_rows) (edges_in_rows edge_rows)
 
 -- where a state beyond which no other goes is taken away by its rows, the tables hold the states without it
 abbrev pub DropTakesState : Type 0
@@ -67,6 +67,6 @@ abbrev pub dropped_writes : List ((ℕ × ℕ × ℕ) × Unit {0}) → List ((�
 dropped_writes edges links own = 3 * length edges + (3 * length links + (2 * length own + 3))
 
 -- a state is taken away, in so many writes
-pub record IsDropped (t u : Tables) (n before now : ℕ) : Type 0 where
+pub record IsDroppedWithin (t u : Tables) (n before now : ℕ) : Type 0 where
   pub state : IsDroppedState t u n
   pub count : Rises (dropped_writes state.led_rows state.linked_rows state.edge_rows) before now

@@ -22,7 +22,7 @@ abbrev pub HasNextChild : Tables → ℕ → ℕ → Option ℕ → Type 0
 HasNextChild t wid low found = MatchOption found ((c : ℕ) → low ≤ c → IsNum c → map.get t (place linked_codec (wid, c)) ≡ None) (IsNextChild t wid low)
 
 -- what is noted once the edge of a child was read
-pub record IsVisit (t : Tables) (child uid from : ℕ) (sources met sources_now met_now : List ℕ) : Type 0 where
+pub record IsChildRead (t : Tables) (child uid from : ℕ) (sources met sources_now met_now : List ℕ) : Type 0 where
   pub edge : Option ℕ
   pub found : HasAt edge_codec t (child, uid) edge
   pub noted : sources_now ≡ sources_after edge from child sources

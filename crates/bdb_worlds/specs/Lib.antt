@@ -1,4 +1,6 @@
+-- what other public promises and laws are made of
 pub mod Bounds
+-- words between crates, and for private loops and lemmas
 pub mod Dropping
 pub mod Finds
 pub mod Free

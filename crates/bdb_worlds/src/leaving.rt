@@ -7,7 +7,7 @@ ghost use Rattle.bdb_tables.specs.Codec.{place};
 ghost use Rattle.bdb_tables.specs.Grammar.{InGrammar};
 ghost use Rattle.bdb_tables.specs.InUse.{link_codec};
 ghost use Rattle.bdb_names.specs.Turned.{edge_set, links_led};
-ghost use Rattle.bdb_worlds.specs.Dropping.{AreWorldRows, IsDropped, pairs_led, pairs_of, kids_of, edges_of, edges_dropped, state_dropped, without_state, dropped_writes};
+ghost use Rattle.bdb_worlds.specs.Dropping.{AreWorldRows, IsDroppedWithin, pairs_led, pairs_of, kids_of, edges_in_rows, edges_dropped, state_dropped, without_state, dropped_writes};
 
 use crate::leading::{lead_edge, lead_link};
 use bdb_keep::Keeper;
@@ -36,7 +36,7 @@ pub fn drop_state<K: Keeper>(alloc: Global, keeper: &mut K, wid: u32) -> Result<
     requires running { (K.seen keeper.old).running ≡ true }
     requires grammar { InGrammar (K.seen keeper.old).kept }
     requires link { is_some (map.get (K.seen keeper.old).kept (place link_codec wid)) ≡ true }
-    ensures dropped { OnOk result (IsDropped (K.seen keeper.old).kept (K.seen keeper.new).kept wid
+    ensures dropped { OnOk result (IsDroppedWithin (K.seen keeper.old).kept (K.seen keeper.new).kept wid
         (K.seen keeper.old).writes (K.seen keeper.new).writes) }
     ensures grammar { OnOk result (InGrammar (K.seen keeper.new).kept) }
     ensures counts { NeverFall (K.seen keeper.old) (K.seen keeper.new) }
@@ -106,7 +106,7 @@ fn write_gone<K: Keeper>(
     ensures kept { OnOk result
         ((K.seen keeper.new).kept ≡ without_state (K.seen keeper.old).kept wid rows.now.link
         (pairs_of rows.now.led.items) (kids_of rows.now.linked.items)
-        (edges_of rows.now.own.items)) }
+        (edges_in_rows rows.now.own.items)) }
     ensures grammar { OnOk result (InGrammar (K.seen keeper.old).kept
         → InGrammar (K.seen keeper.new).kept) }
     ensures writes { OnOk result
@@ -190,7 +190,7 @@ fn drop_edges<K: Keeper>(
     requires running { (K.seen keeper.old).running ≡ true }
     ensures kept { OnOk result
         ((K.seen keeper.new).kept ≡ edges_dropped (K.seen keeper.old).kept wid
-        (edges_of rows.now)) }
+        (edges_in_rows rows.now)) }
     ensures grammar { OnOk result (InGrammar (K.seen keeper.old).kept
         → InGrammar (K.seen keeper.new).kept) }
     ensures writes { OnOk result (Rises (2 * length rows.now) (K.seen keeper.old).writes

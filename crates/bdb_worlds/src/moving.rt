@@ -3,7 +3,7 @@ ghost use Rattle.std.specs.Prelude.{◌≡◌, [], ◌∷◌, IfOk, OnOk};
 ghost use Rattle.bdb_keep.specs.Seen.{NeverFall, Steps};
 ghost use Rattle.bdb_tables.specs.Grammar.{InGrammar};
 ghost use Rattle.bdb_names.specs.Search.{sources_after, met_after};
-ghost use Rattle.bdb_worlds.specs.Finds.{IsVisit, FindsMovers};
+ghost use Rattle.bdb_worlds.specs.Finds.{IsChildRead, FindsMovers};
 
 use crate::children::next_child;
 use bdb_keep::Keeper;
@@ -92,7 +92,7 @@ fn visit<K: Keeper>(
 ) -> Result<(), TabError>
     requires grammar { InGrammar (K.seen keeper.old).kept }
     ensures visit { OnOk result
-        (IsVisit (K.seen keeper.old).kept edge.0 edge.1 from sources.old.items met.old.items
+        (IsChildRead (K.seen keeper.old).kept edge.0 edge.1 from sources.old.items met.old.items
         sources.new.items met.new.items) }
     ensures kept { OnOk result ((K.seen keeper.new).kept ≡ (K.seen keeper.old).kept) }
     ensures writes { (K.seen keeper.new).writes ≡ (K.seen keeper.old).writes }

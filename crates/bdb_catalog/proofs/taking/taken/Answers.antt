@@ -89,8 +89,7 @@ asked g c =
     c.in-Ok-true.ensures in
     let begins : c.as_slice-2.result.now ≡ key_prefix n found.0 rel (values_asked c.as_slice-conds.result.now n) =
     c.as_slice-2.ensures.value ∙ put.0 ∙ ap (λ (x : List ℕ). (x ++ (num_bytes found.0 ++ num_bytes rel ++ num_bytes n)) ++ values_bytes (values_asked c.as_slice-conds.result.now n)) c.new-prefix.ensures.items in
-    let read : AreTuplesRead mid new (key_prefix n found.0 rel (values_asked c.as_slice-conds.result.now n)) s us = subst (λ p. AreTuplesRead mid new p s us) begins c.in-Ok-tuples_under.ensures.tuples in
-    (
+    let read : AreTuplesRead mid new (key_prefix n found.0 rel (values_asked c.as_slice-conds.result.now n)) s us = subst (λ p. AreTuplesRead mid new p s us) begins c.in-Ok-tuples_under.ensures.tuples in (
       subst (λ (cs : List Cond). ArePlain (values_asked cs n)) c.as_slice-conds.ensures put.1,
       subst (λ (cs : List Cond). AreTuplesRead mid new (key_prefix n found.0 rel (values_asked cs n)) s us) c.as_slice-conds.ensures read,
     )

@@ -3,7 +3,7 @@ use Rattle.bdb_base.specs.Bases.{key_lengths}
 use Rattle.bdb_tables.specs.Grammar.{InGrammar}
 use Rattle.bdb_tables.specs.declared.tab.TabError.TheVariants.{Fault}
 use Rattle.bdb_tables.proofs.Loops.{all_at_index, all_take_more, reading_more}
-use Rattle.bdb_decode.specs.SettledRows.{AreKeyed, AreLinked, TellsWorld}
+use Rattle.bdb_decode.specs.SettledRows.{AreKeyed, AreLinkedRows, TellsWorld}
 use Rattle.bdb_decode.proofs.RowsLemmas.{linked_none, world_placed, world_told}
 use Rattle.bdb_decode.proofs.held_rows.are_worlds_settled.Goals as goal
 
@@ -24,7 +24,7 @@ is_world_settled-requires-clause-keyed g c = subst (AreKeyed (key_lengths c.args
 
 pub is_world_settled-requires-clause-linked : goal.is_world_settled-requires-clause-linked
 is_world_settled-requires-clause-linked g c =
-    subst (λ v. AreLinked v c.loop-world.linked.link c.loop-world.linked.rows.items) (sym c.loop-world.invariant.kept) c.loop-world.invariant.read.1
+    subst (λ v. AreLinkedRows v c.loop-world.linked.link c.loop-world.linked.rows.items) (sym c.loop-world.invariant.kept) c.loop-world.invariant.read.1
 
 pub returns-in-Ok-false-clause-settled : goal.returns-in-Ok-false-clause-settled
 returns-in-Ok-false-clause-settled g c =
@@ -48,5 +48,5 @@ loop-world-preserved g c =
     reading_more old now new c.in-Ok-true.field-0 Fault h c.in-Ok-true.ensures.read (
       all_take_more (λ y. TellsWorld keys old.kept y true) c.args.worlds.now i x c.loop-world-test.true (world_placed c.args.worlds.now i (0, None) c.loop-world-test.true) h.read.0
           (world_told keys old.kept now.kept x c.in-Ok-true.field-0 true h.kept c.in-Ok-true.field-0-test c.in-Ok-true.ensures.told),
-      subst (λ v. AreLinked v linked.link linked.rows.items) h.kept c.in-Ok-true.ensures.linked,
+      subst (λ v. AreLinkedRows v linked.link linked.rows.items) h.kept c.in-Ok-true.ensures.linked,
     )

@@ -8,9 +8,9 @@ use Rattle.sqlite.specs.Given.{IsPlain}
 use Rattle.sqlite.specs.Held.{state}
 use Rattle.sqlite.proofs.StateLemmas.{survives_then}
 use Rattle.sqlite.proofs.Callers.{begun_plain, unchanged_then}
-use Rattle.bdb_memory.specs.Held.{Held}
+use Rattle.bdb_memory.specs.StoreContents.{StoreContents}
 use Rattle.bdb_keep.specs.Tables.{LieInTables}
-use Rattle.bdb_sql.specs.Rows.{AreRowsOf}
+use Rattle.bdb_sql.specs.Rows.{AreAllRows}
 use Rattle.bdb_keep.proofs.TableLemmas.{none_lie}
 use Rattle.bdb_sql.proofs.LoadLemmas.{AreShown, shows_all}
 use Rattle.bdb_sql.proofs.RowLemmas.{IsUpTo, up_to_empty, rows_empty, up_to_next, one_more, shown_rows}
@@ -29,11 +29,11 @@ pub rows-init : goal.rows-init
 rows-init g c =
     let made = c.in_ok-rows.ensures in
     let plain : IsPlain (understood c.args.conn.now.schema select_text) = subst (λ (s : Schema). IsPlain (understood s select_text)) (sym c.requires) select_plain in
-    let kept : c.new-store.result.kept ≡ fin.empty = ap (λ (h : Held). h.kept) c.new-store.ensures in (
+    let kept : c.new-store.result.kept ≡ fin.empty = ap (λ (h : StoreContents). h.kept) c.new-store.ensures in (
       refl,
       commits_nothing _ _ c.requires made.survives,
-      λ clean. let begun = begun_plain g.S.Store select_text [] c.args.conn.now _ plain (made.begun clean) in ([], begun.0, subst (AreRowsOf []) (sym kept) rows_empty, begun.1),
-      kept ∙ sym (ap (λ (h : Held). h.last) c.new-store.ensures),
+      λ clean. let begun = begun_plain g.S.Store select_text [] c.args.conn.now _ plain (made.begun clean) in ([], begun.0, subst (AreAllRows []) (sym kept) rows_empty, begun.1),
+      kept ∙ sym (ap (λ (h : StoreContents). h.last) c.new-store.ensures),
       subst LieInTables (sym kept) none_lie,
       subst (IsUpTo c.new-place.result.items) (sym kept) (up_to_empty c.new-place.result.items),
     )

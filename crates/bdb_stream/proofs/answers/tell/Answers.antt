@@ -2,7 +2,7 @@ use Rattle.std.proofs.Common.{◌≤◌, ℕ, List, Result, Ok, Err, length, tak
 use Rattle.std.proofs.KnownBytes.{Appends-nil}
 use Rattle.std.specs.Io.KnownBytes.{Appends}
 use Rattle.bdb_session.specs.declared.reply.Reply.{Reply}
-use Rattle.bdb_session.specs.declared.stop.StopError.{StopError}
+use Rattle.bdb_session.specs.declared.error.StopError.{StopError}
 use Rattle.bdb_stream.specs.Told.{TellsReply}
 use Rattle.bdb_stream.specs.declared.error.RunError.TheVariants.{Sink, Keeper, Memory}
 use Rattle.bdb_stream.proofs.answers.tell.Goals as goal

@@ -3,7 +3,7 @@ use Rattle.std.proofs.lemmas.List.{take_all}
 use Rattle.bdb_keep.specs.Tables.{Tables}
 use Rattle.bdb_tables.specs.declared.tab.TabError.TheVariants.{Fault}
 use Rattle.bdb_tables.proofs.Loops.{all_at_index}
-use Rattle.bdb_update.specs.Groups.{AreExplicit, HasTuple, IsPicked}
+use Rattle.bdb_update.specs.Groups.{AreExplicitRows, HasTupleRow, IsPicked}
 use Rattle.bdb_update.proofs.ExplicitLemmas.{picked_more}
 use Rattle.bdb_update.proofs.QuietLemmas.{looking_more}
 use Rattle.bdb_update.proofs.groups.explicit_among.Goals as goal
@@ -12,8 +12,8 @@ pub push_explicit-requires-clause-there : goal.push_explicit-requires-clause-the
 push_explicit-requires-clause-there g c =
     let t = (g.K.Keeper.seen c.args.keeper.now).kept in
     let e = c.entry-item.result in
-    subst (λ (v : Tables). HasTuple v e) (sym c.loop-entry.invariant.quiet.kept)
-    (all_at_index (HasTuple t) c.args.entries.now c.loop-entry.entry-index e c.loop-entry-test.true c.entry-item.is c.requires.there)
+    subst (λ (v : Tables). HasTupleRow v e) (sym c.loop-entry.invariant.quiet.kept)
+    (all_at_index (HasTupleRow t) c.args.entries.now c.loop-entry.entry-index e c.loop-entry-test.true c.entry-item.is c.requires.there)
 
 pub loop-entry-preserved : goal.loop-entry-preserved
 loop-entry-preserved g c =
@@ -28,4 +28,4 @@ loop-entry-preserved g c =
 pub returns-clause-rows : goal.returns-clause-rows
 returns-clause-rows g c =
     let t = (g.K.Keeper.seen c.args.keeper.now).kept in
-    subst (λ xs. AreExplicit t xs c.loop-entry.rows.items) (take_all c.loop-entry.entry-index c.args.entries.now c.loop-entry-test.false) c.loop-entry.invariant.read
+    subst (λ xs. AreExplicitRows t xs c.loop-entry.rows.items) (take_all c.loop-entry.entry-index c.args.entries.now c.loop-entry-test.false) c.loop-entry.invariant.read

@@ -7,7 +7,7 @@ use Rattle.bdb_tables.proofs.Loops.{counts_then, goes_then, steps_err, steps_ok,
 use Rattle.bdb_update.specs.Keys.{keys_of}
 use Rattle.bdb_worlds.proofs.StepsLemmas.{steps_undone}
 use Rattle.bdb_why.specs.Certificates.{why_of}
-use Rattle.bdb_why.specs.Ends.{is_near}
+use Rattle.bdb_why.specs.Ends.{is_at_an_end}
 use Rattle.bdb_why.specs.Stored.{MayAsk, SomeMayAsk}
 use Rattle.bdb_why.proofs.CallLemmas.{rose_one}
 use Rattle.bdb_why.proofs.LengthLemmas.{why_of_length}
@@ -54,7 +54,7 @@ returns-in-Ok-why_among-clause-why g c =
     let long : IsKeyLength kept u.rel n = subst (λ r. IsKeyLength kept r n) (ap (λ (x : Tuple). x.rel) c.t.view_is) c.in-Ok.ensures.length in
     λ b m. c.in-Ok-why_among.ensures
     ∙ ap (λ xs. why_of (λ _. n) xs path u s) (c.as_slice.ensures ∙ c.in-Ok-near_statements.ensures.near b (subst (λ (t : Tables). MayAsk t path u b) (sym same) m))
-    ∙ why_of_length (keys_of b) n (filter (is_near (keys_of b) path u) b.stmts) path u s (long b.catalog.rels m.has.base.stored.stored.rels)
+    ∙ why_of_length (keys_of b) n (filter (is_at_an_end (keys_of b) path u) b.stmts) path u s (long b.catalog.rels m.has.base.stored.stored.rels)
     ∙ why_depends_on_near (keys_of b) b.stmts path u s
 
 pub returns-in-Ok-why_among-clause-reads : goal.returns-in-Ok-why_among-clause-reads

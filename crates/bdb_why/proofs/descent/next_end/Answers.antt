@@ -4,7 +4,7 @@ use Rattle.bdb_tables.specs.InUse.{link_codec}
 use Rattle.bdb_tables.specs.declared.tab.TabError.TheVariants.{Fault}
 use Rattle.bdb_tables.proofs.Numbered.{at_old}
 use Rattle.bdb_update.proofs.StandingLemmas.{read_refused}
-use Rattle.bdb_why.specs.Reading.{HasDepth, SomeHaveState}
+use Rattle.bdb_why.specs.Reading.{SomeHaveState, StandsForDepth}
 use Rattle.bdb_why.proofs.LinkLemmas.{link_has_state, link_is_there, link_leads}
 use Rattle.bdb_why.proofs.descent.next_end.Goals as goal
 
@@ -29,4 +29,4 @@ returns-in-Ok-clause-at g c =
     let kept = (g.K.Keeper.seen c.args.keeper.now).kept in
     link_leads kept c.args.wid c.in-Ok-Some.next c.in-Ok.depth
     (at_old link_codec kept kept c.args.wid c.in-Ok-Some.field-0 (Some c.in-Ok-Some.next) refl c.in-Ok-Some.field-0-is c.in-Ok-Some.ensures.found)
-    (subst (λ (t : Tables). HasDepth t c.in-Ok-Some.next c.in-Ok.depth) c.in-Ok-Some.ensures.read.kept c.in-Ok.ensures.depth)
+    (subst (λ (t : Tables). StandsForDepth t c.in-Ok-Some.next c.in-Ok.depth) c.in-Ok-Some.ensures.read.kept c.in-Ok.ensures.depth)

@@ -4,7 +4,7 @@ use Rattle.bdb_base.specs.Clash.{key_of}
 use Rattle.bdb_base.specs.Order.{statement_cmp}
 use Rattle.bdb_base.specs.SortedSet.{ascending}
 use Rattle.bdb_base.specs.declared.kinds.Sign.TheVariants.{Plus, Minus}
-use Rattle.bdb_key.specs.Grammar.{IsWhole}
+use Rattle.bdb_key.specs.Grammar.{HasEightBytes}
 use Rattle.bdb_tables.specs.Lengths.{IsKeyLength}
 use Rattle.bdb_tables.specs.GroupMarks.{group_bytes}
 use Rattle.bdb_update.proofs.KeyLemmas.{key_short}
@@ -30,10 +30,10 @@ returns-in-Ok-put_both-clause-put g c =
     let put : c.as_slice-prefix.result.now ≡ group_bytes c.args.wid c.args.rel c.key_of-key.result.now = search rules in
     let begin : c.as_slice-prefix.result.now ≡ group_bytes c.args.wid u.rel (key_of (λ _. n) u) =
     put ∙ ap (λ r. group_bytes c.args.wid r c.key_of-key.result.now) rel ∙ ap (group_bytes c.args.wid u.rel) c.key_of-key.ensures in
-    let written : AllByRecursion IsWhole c.key_of-key.result.now = search rules in
+    let written : AllByRecursion HasEightBytes c.key_of-key.result.now = search rules in
     let say = subst (λ p. AreTuplesRead old mid p Plus said) begin c.in-Ok.ensures.tuples in
     let deny = subst (λ p. AreTuplesRead mid new p Minus denied) begin c.in-Ok-tuples_under.ensures.tuples in
-    puts_near old mid new c.in-Ok.ensures.read.kept c.args.wid c.args.path.now u n long (subst (AllByRecursion IsWhole) c.key_of-key.ensures written) said denied say deny
+    puts_near old mid new c.in-Ok.ensures.read.kept c.args.wid c.args.path.now u n long (subst (AllByRecursion HasEightBytes) c.key_of-key.ensures written) said denied say deny
     c.args.stmts.now c.put_both.new.stmts c.requires.sorted c.in-Ok-put_both.ensures
 
 pub returns-in-Ok-put_both-clause-sorted : goal.returns-in-Ok-put_both-clause-sorted
@@ -54,7 +54,7 @@ returns-in-Ok-put_both-clause-reads g c =
     let put : c.as_slice-prefix.result.now ≡ group_bytes c.args.wid c.args.rel c.key_of-key.result.now = search rules in
     let begin : c.as_slice-prefix.result.now ≡ group_bytes c.args.wid u.rel (key_of (λ _. n) u) =
     put ∙ ap (λ r. group_bytes c.args.wid r c.key_of-key.result.now) rel ∙ ap (group_bytes c.args.wid u.rel) c.key_of-key.ensures in
-    let written : AllByRecursion IsWhole c.key_of-key.result.now = search rules in
+    let written : AllByRecursion HasEightBytes c.key_of-key.result.now = search rules in
     let say = subst (λ p. AreTuplesRead old mid p Plus said) begin c.in-Ok.ensures.tuples in
     let deny = subst (λ p. AreTuplesRead mid new p Minus denied) begin c.in-Ok-tuples_under.ensures.tuples in
-    reads_here old mid new c.in-Ok.ensures.read.kept c.args.wid c.args.path.now u n long (subst (AllByRecursion IsWhole) c.key_of-key.ensures written) said denied say deny
+    reads_here old mid new c.in-Ok.ensures.read.kept c.args.wid c.args.path.now u n long (subst (AllByRecursion HasEightBytes) c.key_of-key.ensures written) said denied say deny

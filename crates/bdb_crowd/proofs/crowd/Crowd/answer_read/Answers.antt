@@ -2,7 +2,7 @@ use Rattle.std.proofs.Common.{true, Ok, refl, subst, sym}
 use Rattle.std.proofs.KnownBytes.{Appends-nil}
 use Rattle.bdb_events.specs.declared.read.Read.{Read}
 use Rattle.bdb_crowd.specs.Asked.{piece}
-use Rattle.bdb_crowd.specs.Carried.{IsAnswer}
+use Rattle.bdb_crowd.specs.Carried.{TellsAnswer}
 use Rattle.bdb_crowd.proofs.ActLemmas.{long_answers, named, no_line_answers, no_session_answers, nothing_answers, some_timeline}
 use Rattle.bdb_crowd.proofs.crowd.Crowd.answer_read.Goals as goal
 
@@ -20,7 +20,7 @@ returns-in-NoLine-clause-answered g c = λ p a. no_line_answers p c.args.read _ 
 
 pub returns-in-Event-clause-answered : goal.returns-in-Event-clause-answered
 returns-in-Event-clause-answered g c = λ p a.
-    subst (λ (r : Read). IsAnswer p (piece r) c.answer_event.new.self (g.K.Keeper.seen c.args.keeper.now) (g.K.Keeper.seen c.answer_event.new.keeper) (g.O.Sink.written c.args.out.now) (g.O.Sink.written c.answer_event.new.out) c.answer_event.result)
+    subst (λ (r : Read). TellsAnswer p (piece r) c.answer_event.new.self (g.K.Keeper.seen c.args.keeper.now) (g.K.Keeper.seen c.answer_event.new.keeper) (g.O.Sink.written c.args.out.now) (g.O.Sink.written c.answer_event.new.out) c.answer_event.result)
     (sym c.in-Event.is) (c.answer_event.ensures.answered p a)
 
 pub tell-requires : goal.tell-requires

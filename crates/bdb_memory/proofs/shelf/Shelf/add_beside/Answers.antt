@@ -1,7 +1,7 @@
 use Rattle.std.proofs.Common.{◌≡◌, Some, None, sym, ap, ◌∙◌, subst}
 use Rattle.std.specs.Prelude.{IfErr, OnSome}
 use Rattle.bdb_memory.specs.Entries.{place_at}
-use Rattle.bdb_memory.specs.Blocks.{joined, IsGap}
+use Rattle.bdb_memory.specs.Blocks.{joined, BelongsHere}
 use Rattle.bdb_memory.specs.Shelves.{IsChangedAt}
 use Rattle.bdb_memory.proofs.BlocksLemmas.{place_at-gap}
 use Rattle.bdb_memory.proofs.ShelvesLemmas.{changed-added}
@@ -13,7 +13,7 @@ returns-after-add-clause-absent c =
     let q = c.args.probe.now in
     let i = c.in-Some-Err.at.0 in
     let j = c.in-Some-Err.at.1 in
-    let gap : IsGap c.self.inside.blocks.items q i j = subst (λ bs. IsGap bs q i j) c.deref.ensures.value (subst (λ r. IfErr r (λ at. IsGap c.deref.result.now q at.0 at.1)) c.in-Some-Err.field-0-is c.in-Some-Err.ensures.gap) in
+    let gap : BelongsHere c.self.inside.blocks.items q i j = subst (λ bs. BelongsHere bs q i j) c.deref.ensures.value (subst (λ r. IfErr r (λ at. BelongsHere c.deref.result.now q at.0 at.1)) c.in-Some-Err.field-0-is c.in-Some-Err.ensures.gap) in
     elim c.match-add.branch [
       | in-Ok w ↦
           subst (λ r. OnSome r (place_at c.args.self.now q ≡ None)) (sym w.result-is)
@@ -26,7 +26,7 @@ returns-after-add-clause-set c =
     let q = c.args.probe.now in
     let i = c.in-Some-Err.at.0 in
     let j = c.in-Some-Err.at.1 in
-    let gap : IsGap c.self.inside.blocks.items q i j = subst (λ bs. IsGap bs q i j) c.deref.ensures.value (subst (λ r. IfErr r (λ at. IsGap c.deref.result.now q at.0 at.1)) c.in-Some-Err.field-0-is c.in-Some-Err.ensures.gap) in
+    let gap : BelongsHere c.self.inside.blocks.items q i j = subst (λ bs. BelongsHere bs q i j) c.deref.ensures.value (subst (λ r. IfErr r (λ at. BelongsHere c.deref.result.now q at.0 at.1)) c.in-Some-Err.field-0-is c.in-Some-Err.ensures.gap) in
     elim c.match-add.branch [
       | in-Ok w ↦
           subst (λ r. OnSome r (IsChangedAt c.args.self.now (joined c.add.new.blocks.items) q (place_at c.args.self.now q) (Some (Some c.args.row.now)))) (sym w.result-is)

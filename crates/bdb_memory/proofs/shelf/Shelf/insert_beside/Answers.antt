@@ -1,7 +1,7 @@
 use Rattle.std.proofs.Common.{Some, sym, ap, ◌∙◌, subst}
 use Rattle.std.specs.Prelude.{IfOk, IfErr}
 use Rattle.bdb_memory.specs.Entries.{place_at}
-use Rattle.bdb_memory.specs.Blocks.{joined, StandsAt, IsGap}
+use Rattle.bdb_memory.specs.Blocks.{joined, StandsAt, BelongsHere}
 use Rattle.bdb_memory.specs.Shelves.{IsChangedAt}
 use Rattle.bdb_memory.proofs.BlocksLemmas.{place_at-stands, place_at-gap}
 use Rattle.bdb_memory.proofs.ShelvesLemmas.{changed-replaced, changed-added}
@@ -30,7 +30,7 @@ returns-in_ok-at-in-Some-Err-clause-found c =
     let q = c.args.probe.now in
     let i = c.in-Some-Err.at.0 in
     let j = c.in-Some-Err.at.1 in
-    let gap : IsGap c.self.inside.blocks.items q i j = subst (λ bs. IsGap bs q i j) c.deref.ensures.value (subst (λ r. IfErr r (λ at. IsGap c.deref.result.now q at.0 at.1)) c.in-Some-Err.field-0-is c.in-Some-Err.ensures.gap) in
+    let gap : BelongsHere c.self.inside.blocks.items q i j = subst (λ bs. BelongsHere bs q i j) c.deref.ensures.value (subst (λ r. IfErr r (λ at. BelongsHere c.deref.result.now q at.0 at.1)) c.in-Some-Err.field-0-is c.in-Some-Err.ensures.gap) in
     ap (λ es. place_at es q) (sym c.self.view_is) ∙ place_at-gap c.self.inside.blocks.items q i j gap
 
 pub returns-in_ok-at-in-Some-Err-clause-set : goal.returns-in_ok-at-in-Some-Err-clause-set
@@ -38,6 +38,6 @@ returns-in_ok-at-in-Some-Err-clause-set c =
     let q = c.args.probe.now in
     let i = c.in-Some-Err.at.0 in
     let j = c.in-Some-Err.at.1 in
-    let gap : IsGap c.self.inside.blocks.items q i j = subst (λ bs. IsGap bs q i j) c.deref.ensures.value (subst (λ r. IfErr r (λ at. IsGap c.deref.result.now q at.0 at.1)) c.in-Some-Err.field-0-is c.in-Some-Err.ensures.gap) in
+    let gap : BelongsHere c.self.inside.blocks.items q i j = subst (λ bs. BelongsHere bs q i j) c.deref.ensures.value (subst (λ r. IfErr r (λ at. BelongsHere c.deref.result.now q at.0 at.1)) c.in-Some-Err.field-0-is c.in-Some-Err.ensures.gap) in
     subst (λ es. IsChangedAt es (joined c.add.new.blocks.items) q (place_at es q) (Some (Some c.args.row.now))) c.self.view_is
     (changed-added c.self.inside.blocks.items (joined c.add.new.blocks.items) q (Some c.args.row.now) i j gap c.in_ok-at-in-Some-Err.ensures.ok)

@@ -1,7 +1,7 @@
 use Rattle.std.proofs.Common.{◌≡◌, Some, sym, ap, ◌∙◌, subst}
 use Rattle.std.specs.Prelude.{IfOk, IfErr, IfSome, OnSome}
 use Rattle.bdb_memory.specs.Entries.{place_at, row_of}
-use Rattle.bdb_memory.specs.Blocks.{joined, StandsAt, IsGap}
+use Rattle.bdb_memory.specs.Blocks.{joined, StandsAt, BelongsHere}
 use Rattle.bdb_memory.specs.Shelves.{IsChangedAt}
 use Rattle.bdb_memory.proofs.BlocksLemmas.{place_at-stands, place_at-gap}
 use Rattle.bdb_memory.proofs.ShelvesLemmas.{changed-replaced, changed-added}
@@ -31,7 +31,7 @@ returns-after-add-clause-found c =
     let q = c.args.probe.now in
     let i = c.in-Some-Err.at.0 in
     let j = c.in-Some-Err.at.1 in
-    let gap : IsGap c.self.inside.blocks.items q i j = subst (λ bs. IsGap bs q i j) c.deref.ensures.value (subst (λ r. IfErr r (λ at. IsGap c.deref.result.now q at.0 at.1)) c.in-Some-Err.field-0-is c.in-Some-Err.ensures.gap) in
+    let gap : BelongsHere c.self.inside.blocks.items q i j = subst (λ bs. BelongsHere bs q i j) c.deref.ensures.value (subst (λ r. IfErr r (λ at. BelongsHere c.deref.result.now q at.0 at.1)) c.in-Some-Err.field-0-is c.in-Some-Err.ensures.gap) in
     elim c.match-add.branch [
       | in-Ok-add w ↦
           subst (λ r. IfSome r (λ put. row_of (place_at c.args.self.now q) ≡ put.2)) (sym w.result-is)
@@ -44,7 +44,7 @@ returns-after-add-clause-set c =
     let q = c.args.probe.now in
     let i = c.in-Some-Err.at.0 in
     let j = c.in-Some-Err.at.1 in
-    let gap : IsGap c.self.inside.blocks.items q i j = subst (λ bs. IsGap bs q i j) c.deref.ensures.value (subst (λ r. IfErr r (λ at. IsGap c.deref.result.now q at.0 at.1)) c.in-Some-Err.field-0-is c.in-Some-Err.ensures.gap) in
+    let gap : BelongsHere c.self.inside.blocks.items q i j = subst (λ bs. BelongsHere bs q i j) c.deref.ensures.value (subst (λ r. IfErr r (λ at. BelongsHere c.deref.result.now q at.0 at.1)) c.in-Some-Err.field-0-is c.in-Some-Err.ensures.gap) in
     elim c.match-add.branch [
       | in-Ok-add w ↦
           subst (λ r. OnSome r (IsChangedAt c.args.self.now (joined c.add.new.blocks.items) q (place_at c.args.self.now q) (Some (Some c.args.row.now)))) (sym w.result-is)

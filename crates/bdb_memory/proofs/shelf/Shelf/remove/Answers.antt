@@ -1,6 +1,6 @@
 use Rattle.std.proofs.Common.{None, subst}
 use Rattle.bdb_memory.specs.Entries.{place_at}
-use Rattle.bdb_memory.specs.Blocks.{joined, StandsAt, IsGap}
+use Rattle.bdb_memory.specs.Blocks.{joined, StandsAt, BelongsHere}
 use Rattle.bdb_memory.specs.Shelves.{IsChangedAt}
 use Rattle.bdb_memory.proofs.ShelvesLemmas.{changed-taken, changed-nothing}
 use Rattle.bdb_memory.proofs.shelf.Shelf.remove.Goals as goal
@@ -15,5 +15,5 @@ returns-in-Ok c =
 pub returns-in-Err : goal.returns-in-Err
 returns-in-Err c =
     let q = c.args.probe.now in
-    let gap : IsGap c.self.inside.blocks.items q c.in-Err.spot.0 c.in-Err.spot.1 = subst (λ bs. IsGap bs q c.in-Err.spot.0 c.in-Err.spot.1) c.deref.ensures.value c.in-Err.ensures.gap in
+    let gap : BelongsHere c.self.inside.blocks.items q c.in-Err.spot.0 c.in-Err.spot.1 = subst (λ bs. BelongsHere bs q c.in-Err.spot.0 c.in-Err.spot.1) c.deref.ensures.value c.in-Err.ensures.gap in
     subst (λ es. IsChangedAt es es q (place_at es q) None) c.self.view_is (changed-nothing c.self.inside.blocks.items q c.in-Err.spot.0 c.in-Err.spot.1 gap)

@@ -1,6 +1,6 @@
 use Rattle.std.proofs.Common.{◌≡◌, [], get_or, sym, ap, ◌∙◌, subst}
 use Rattle.bdb_memory.specs.Entries.{row_of, place_at}
-use Rattle.bdb_memory.specs.Blocks.{entry_at, StandsAt, IsGap}
+use Rattle.bdb_memory.specs.Blocks.{entry_at, StandsAt, BelongsHere}
 use Rattle.bdb_memory.proofs.BlocksLemmas.{place_at-stands, place_at-gap}
 use Rattle.bdb_memory.proofs.shelf.Shelf.row_at.Goals as goal
 
@@ -15,5 +15,5 @@ returns-in-Ok c =
 pub returns-in-Err : goal.returns-in-Err
 returns-in-Err c =
     let q = c.args.probe.now in
-    let gap : IsGap c.self.inside.blocks.items q c.in-Err.spot.0 c.in-Err.spot.1 = subst (λ bs. IsGap bs q c.in-Err.spot.0 c.in-Err.spot.1) c.deref.ensures.value c.in-Err.ensures.gap in
+    let gap : BelongsHere c.self.inside.blocks.items q c.in-Err.spot.0 c.in-Err.spot.1 = subst (λ bs. BelongsHere bs q c.in-Err.spot.0 c.in-Err.spot.1) c.deref.ensures.value c.in-Err.ensures.gap in
     sym (ap row_of (place_at-gap c.self.inside.blocks.items q c.in-Err.spot.0 c.in-Err.spot.1 gap)) ∙ ap (λ es. row_of (place_at es q)) c.self.view_is

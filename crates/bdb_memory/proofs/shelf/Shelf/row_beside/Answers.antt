@@ -1,7 +1,7 @@
 use Rattle.std.proofs.Common.{◌≡◌, [], get_or, sym, ap, ◌∙◌, subst}
 use Rattle.std.specs.Prelude.{IfOk, IfErr}
 use Rattle.bdb_memory.specs.Entries.{row_of, place_at}
-use Rattle.bdb_memory.specs.Blocks.{entry_at, StandsAt, IsGap}
+use Rattle.bdb_memory.specs.Blocks.{entry_at, StandsAt, BelongsHere}
 use Rattle.bdb_memory.proofs.BlocksLemmas.{place_at-stands, place_at-gap}
 use Rattle.bdb_memory.proofs.shelf.Shelf.row_beside.Goals as goal
 
@@ -19,5 +19,5 @@ returns-in-Some-Err-clause-row c =
     let q = c.args.probe.now in
     let i = c.in-Some-Err.at.0 in
     let j = c.in-Some-Err.at.1 in
-    let gap : IsGap c.self.inside.blocks.items q i j = subst (λ bs. IsGap bs q i j) c.deref.ensures.value (subst (λ r. IfErr r (λ at. IsGap c.deref.result.now q at.0 at.1)) c.in-Some-Err.field-0-is c.in-Some-Err.ensures.gap) in
+    let gap : BelongsHere c.self.inside.blocks.items q i j = subst (λ bs. BelongsHere bs q i j) c.deref.ensures.value (subst (λ r. IfErr r (λ at. BelongsHere c.deref.result.now q at.0 at.1)) c.in-Some-Err.field-0-is c.in-Some-Err.ensures.gap) in
     sym (ap row_of (place_at-gap c.self.inside.blocks.items q i j gap)) ∙ ap (λ es. row_of (place_at es q)) c.self.view_is

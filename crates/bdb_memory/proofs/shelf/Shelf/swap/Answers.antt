@@ -1,6 +1,6 @@
 use Rattle.std.proofs.Common.{Some, sym, ap, ◌∙◌, subst}
 use Rattle.bdb_memory.specs.Entries.{place_at}
-use Rattle.bdb_memory.specs.Blocks.{joined, StandsAt, IsGap}
+use Rattle.bdb_memory.specs.Blocks.{joined, StandsAt, BelongsHere}
 use Rattle.bdb_memory.specs.Shelves.{IsChangedAt}
 use Rattle.bdb_memory.proofs.BlocksLemmas.{place_at-stands, place_at-gap}
 use Rattle.bdb_memory.proofs.ShelvesLemmas.{changed-replaced}
@@ -22,5 +22,5 @@ returns-in-Ok-clause-set c =
 pub returns-in-Err-clause-absent : goal.returns-in-Err-clause-absent
 returns-in-Err-clause-absent c =
     let q = c.args.probe.now in
-    let gap : IsGap c.self.inside.blocks.items q c.in-Err.field-0.0 c.in-Err.field-0.1 = subst (λ bs. IsGap bs q c.in-Err.field-0.0 c.in-Err.field-0.1) c.deref.ensures.value c.in-Err.ensures.gap in
+    let gap : BelongsHere c.self.inside.blocks.items q c.in-Err.field-0.0 c.in-Err.field-0.1 = subst (λ bs. BelongsHere bs q c.in-Err.field-0.0 c.in-Err.field-0.1) c.deref.ensures.value c.in-Err.ensures.gap in
     ap (λ es. place_at es q) (sym c.self.view_is) ∙ place_at-gap c.self.inside.blocks.items q c.in-Err.field-0.0 c.in-Err.field-0.1 gap

@@ -1,5 +1,5 @@
 use Rattle.std.proofs.Common.{◌≡◌, ◌∙◌, sym, ap, subst, length, rules}
-use Rattle.bdb_memory.specs.Held.{written}
+use Rattle.bdb_memory.specs.StoreContents.{written}
 use Rattle.bdb_memory.specs.Entries.{rows_of}
 use Rattle.bdb_memory.proofs.WrittenLemmas.{written-undone, length-places_of}
 use Rattle.bdb_memory.proofs.store.Store.change_count.Goals as goal

@@ -1,7 +1,7 @@
 use Rattle.std.proofs.Common.{◌≡◌, ◌∙◌, ap, refl, sym, subst}
 use Rattle.bdb_syntax.specs.declared.command.Command.{Command}
 use Rattle.bdb_session.specs.declared.reading.Reading.TheVariants as reading
-use Rattle.bdb_session.specs.declared.stop.StopError.TheVariants.{Memory}
+use Rattle.bdb_session.specs.declared.error.StopError.TheVariants.{Memory}
 use Rattle.bdb_session.specs.Bounds.{CommandReads, CommandWrites, reading_asks}
 use Rattle.bdb_session.specs.Undoing.{next_state, outcome_of}
 use Rattle.bdb_session.specs.declared.event.Event.TheVariants.{Piece}

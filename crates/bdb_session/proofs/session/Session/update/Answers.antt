@@ -11,7 +11,7 @@ use Rattle.bdb_update.specs.Steps.{ChangesThrough}
 use Rattle.bdb_update.proofs.CallLemmas.{gone_itself}
 use Rattle.bdb_val.proofs.Calls.{changing_undone, gone_then}
 use Rattle.bdb_session.specs.declared.reply.Reply.{Reply}
-use Rattle.bdb_session.specs.declared.stop.StopError.TheVariants.{Fault, Memory}
+use Rattle.bdb_session.specs.declared.error.StopError.TheVariants.{Fault, Memory}
 use Rattle.bdb_session.specs.Machine.{bound_outcome}
 use Rattle.bdb_session.specs.Noting.{Replaces}
 use Rattle.bdb_session.specs.Within.{sized}
