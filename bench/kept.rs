@@ -1,10 +1,13 @@
 // Measures the small program for what no script can reach, beside plain Rust and the system's SQLite in the same run. Times are
 // those of the clock, since the program tells the time of each part by it: leave the machine alone meanwhile.
 mod plain;
+#[allow(dead_code)]
+mod scripts;
 
 use std::collections::BTreeMap;
 use std::fs;
 use std::hint::black_box;
+use std::io::{BufRead, BufReader};
 use std::path::{Path, PathBuf};
 use std::process::{Command, Stdio};
 use std::time::Instant;
@@ -191,6 +194,33 @@ fn filing(bench: &Bench) {
     clean();
 }
 
+/// The largest tables, and which base they hold. One run. Memory is the most so far, as the system tells it at the end of each line.
+fn telling(bench: &Bench) {
+    head("The largest tables, in memory", "work | time | each row | most memory so far");
+    let (script, rows) = scripts::largest();
+    let file = bench.work.join("script");
+    fs::write(&file, &script.text).expect("a script");
+    let mut command = Command::new(&bench.program);
+    command.arg("told").stdin(fs::File::open(&file).expect("a script")).stdout(Stdio::piped()).stderr(Stdio::null());
+    let mut child = command.spawn().expect("the program");
+    let output = BufReader::new(child.stdout.take().expect("a pipe"));
+    for (line, (title, name)) in output.lines().zip([("made by inserts", "run"), ("told which base they hold", "tell")]) {
+        let most = most_of(child.id());
+        let mut told = BTreeMap::new();
+        merge(&mut told, line.expect("a line").as_bytes());
+        let (seconds, each) = (told[name] / 1e6, told[name] / rows as f64);
+        println!("| {title} | {seconds:.1} s | {each:.2} us | {most} |");
+    }
+    assert!(child.wait().expect("the program").success());
+}
+
+/// The most memory that a process had at once so far, where it still runs.
+fn most_of(pid: u32) -> String {
+    let status = fs::read_to_string(format!("/proc/{pid}/status")).unwrap_or_default();
+    let most = status.lines().find_map(|line| line.strip_prefix("VmHWM:"));
+    most.map_or("not known".to_string(), |most| most.trim().to_string())
+}
+
 fn main() {
     let words: Vec<String> = std::env::args().skip(1).collect();
     let [program, work, runs] = words.as_slice() else { panic!("words: PROGRAM FOLDER RUNS") };
@@ -199,4 +229,5 @@ fn main() {
     reading(&bench);
     keeping(&bench);
     filing(&bench);
+    telling(&bench);
 }

@@ -376,6 +376,11 @@ fn showing(bench: &Bench) {
     }
 }
 
+/// The paths that begin the statements' paths: the worlds that a base of them has.
+fn states_of(stmts: &[plain::Stmt]) -> BTreeSet<&[u32]> {
+    stmts.iter().flat_map(|stmt| (0..=stmt.path.len()).map(|len| &stmt.path[..len])).collect()
+}
+
 fn structure(bench: &Bench) {
     head("One show tables", &["worlds", "users", "statements", "lines", "time", "each line"]);
     let worlds = [230, 466, 954, 1_954].map(|paths| (45, at_pairs(45, paths)));
@@ -383,38 +388,38 @@ fn structure(bench: &Bench) {
     let rows = [500, 1_000, 2_000, 3_900].map(|count| (20, at_the_root(20, count)));
     for (users, stmts) in worlds.into_iter().chain(users).chain(rows) {
         let script = Script::new(catalog(users, 1) + &inserts(&stmts));
-        let states: BTreeSet<&[u32]> = stmts.iter().flat_map(|stmt| (0..=stmt.path.len()).map(|len| &stmt.path[..len])).collect();
+        let states = states_of(&stmts);
         let lines = bench.lines(&script.and("show tables;", 1));
         let time = bench.command(&script, "show tables;", 20);
         row(&[states.len().to_string(), users.to_string(), stmts.len().to_string(), lines.to_string(), ms(time), format!("{:.2} us", time * 1e6 / lines as f64)]);
     }
 }
 
-/// The last of the most users leaves, who states so much of tuples that nobody else tells.
+/// The last of the most users leaves, who states so much of tuples that nobody else tells. In each world that is left his edge goes,
+/// which is two rows. Where he states something, his world goes, with its three rows and the edges from it to all others, and of each
+/// statement three rows.
 fn leaving(bench: &Bench) {
-    head("One drop user, of 1,024", &["paths of others", "statements that name him", "time", "each world and statement"]);
+    head("One drop user, of 1,024", &["worlds left", "statements that name him", "rows changed", "time", "each row changed"]);
     for (paths, said) in [(200, 1), (200, 1_000), (3_900, 0), (3_900, 1), (3_900, 100), (3_900, 1_000), (3_900, 3_900)] {
         let stmts = [of_one_tuple(64, paths), at_one_path(1_024, said)].concat();
         let script = Script::new(catalog(1_024, 1) + &inserts(&stmts));
         let time = bench.command(&script, "drop user 'u1024';", 1);
-        let each = time / ((paths + 1) * (said + 1)) as f64;
-        row(&[paths.to_string(), said.to_string(), ms(time), format!("{:.2} us", each * 1e6)]);
+        let states = states_of(&stmts);
+        let left = states.len() - usize::from(said > 0);
+        let rows = 2 * left + 1 + if said > 0 { 3 + 2 * 1_023 + 3 * said } else { 0 };
+        row(&[left.to_string(), said.to_string(), rows.to_string(), ms(time), us(time / rows as f64)]);
     }
 }
 
-/// The largest tables: each of 4,000 worlds has nearly 4,000 rows, and an edge for each of 1,024 users. One run. Of all children it has
-/// the most memory.
+/// The largest tables. One run. Of all children it has the most memory.
 fn largest(bench: &Bench) {
     head("The largest tables", &["rows", "time", "each row", "memory"]);
-    let stmts = [at_the_root(1_024, 3_999), of_one_tuple(64, 2_930)].concat();
-    let script = Script::new(catalog(1_024, 1) + &inserts(&stmts));
+    let (script, rows) = scripts::largest();
     bench.check(&script);
     let file = bench.file(&script);
     let before = used(CHILDREN);
     bench.run(&file, Stdio::null());
     let (time, most) = (used(CHILDREN) - before, usage(CHILDREN).most_kilobytes);
-    let worlds = 1 + 1_024 + 2_930;
-    let rows = worlds * (3_999 + 2 * 1_024);
     row(&[format!("{:.1} million", rows as f64 * 1e-6), format!("{time:.1} s"), us(time / rows as f64), format!("{:.1} GB", most as f64 * 1.024e-6)]);
 }
 

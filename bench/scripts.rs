@@ -126,3 +126,12 @@ pub fn at_the_root(users: u32, count: usize) -> Vec<Stmt> {
     let plain = mixed(count).map(|number| statement(Vec::new(), number));
     plain.chain((1..=users).map(|uid| statement(vec![uid], 0))).collect()
 }
+
+/// The largest tables: with the most users, nearly 4,000 worlds of nearly 4,000 rows each, and in each world an edge for each user but
+/// its last; and how many rows they have.
+pub fn largest() -> (Script, usize) {
+    let (users, paths, tuples) = (1_024, 2_975, 3_999);
+    let stmts = [at_the_root(users, tuples), of_one_tuple(64, paths)].concat();
+    let worlds = 1 + users as usize + paths;
+    (Script::new(catalog(users as usize, 1) + &inserts(&stmts)), worlds * (tuples + 2 * users as usize))
+}

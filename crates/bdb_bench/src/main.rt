@@ -1,5 +1,5 @@
-//! Measures what no script can reach, in microseconds of the clock: reading a script without answering it, the keeper in
-//! memory, and the keeper over a file. `bench/run.sh` calls it; without words it says how. And it tells what the keeper makes
+//! Measures what no script can reach, in microseconds of the clock: reading a script without answering it, telling which base
+//! rows hold, the keeper in memory, and the keeper over a file. `bench/run.sh` calls it; without words it says how. And it tells what the keeper makes
 //! of files that are there or not, which the gate compares.
 #![tactic(auto)]
 
@@ -7,6 +7,7 @@ mod filed;
 mod files;
 mod kept;
 mod read;
+mod told;
 
 use std::process::ExitCode;
 use std::time::Instant;
@@ -27,6 +28,7 @@ fn measured(rt: &HostRuntime) -> io::Result<()> {
     }
     match words.as_slice() {
         [job] if job.as_str() == "read" => read::measure(rt),
+        [job] if job.as_str() == "told" => told::measure(rt),
         [job, count] if job.as_str() == "kept" => kept::measure(rt, number(count.as_str())),
         [job, file, commits, rows] if job.as_str() == "filed" => filed::measure(
             rt,
@@ -37,7 +39,7 @@ fn measured(rt: &HostRuntime) -> io::Result<()> {
         [job, file] if job.as_str() == "open" => filed::measure_open(rt, file.as_str()),
         [job] if job.as_str() == "files" => files::tell(rt),
         _ => println!(rt;
-            "read < SCRIPT | kept COUNT | filed FILE COMMITS ROWS | open FILE | files"
+            "read < SCRIPT | told < SCRIPT | kept COUNT | filed FILE COMMITS ROWS | open FILE | files"
         ),
     }
 }
