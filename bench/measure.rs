@@ -3,7 +3,7 @@
 mod plain;
 mod scripts;
 
-use scripts::{at_many_paths, at_one_path, at_pairs, at_the_root, beliefs, catalog, for_worlds, inserts, of_one_tuple, repeated, turns, Script};
+use scripts::{at_each, at_many_paths, at_one_path, at_pairs, at_the_root, beliefs, catalog, for_worlds, inserts, of_one_tuple, repeated, turns, Script};
 use std::collections::{BTreeMap, BTreeSet};
 use std::fs::{self, File};
 use std::hint::black_box;
@@ -395,19 +395,29 @@ fn structure(bench: &Bench) {
     }
 }
 
-/// The last of the most users leaves, who states so much of tuples that nobody else tells. In each world that is left his edge goes,
-/// which is two rows. Where he states something, his world goes, with its three rows and the edges from it to all others, and of each
-/// statement three rows.
+/// Of the most users so many leave, the last one first, each of whom states so much of tuples that nobody else tells.
 fn leaving(bench: &Bench) {
-    head("One drop user, of 1,024", &["worlds left", "statements that name him", "rows changed", "time", "each row changed"]);
-    for (paths, said) in [(200, 1), (200, 1_000), (3_900, 0), (3_900, 1), (3_900, 100), (3_900, 1_000), (3_900, 3_900)] {
-        let stmts = [of_one_tuple(64, paths), at_one_path(1_024, said)].concat();
-        let script = Script::new(catalog(1_024, 1) + &inserts(&stmts));
-        let time = bench.command(&script, "drop user 'u1024';", 1);
-        let states = states_of(&stmts);
-        let left = states.len() - usize::from(said > 0);
-        let rows = 2 * left + 1 + if said > 0 { 3 + 2 * 1_023 + 3 * said } else { 0 };
-        row(&[left.to_string(), said.to_string(), rows.to_string(), ms(time), us(time / rows as f64)]);
+    head("One drop user, of 1,024", &["worlds of others", "statements that name him", "rows changed", "time", "each row changed"]);
+    for (paths, leavers, said) in [(200, 40, 1), (200, 40, 90), (1_000, 40, 0), (1_000, 40, 1), (1_000, 40, 90), (3_890, 40, 0), (3_890, 40, 90)] {
+        let others = of_one_tuple(64, paths);
+        let worlds = states_of(&others).len();
+        let gone: Vec<u32> = (0..leavers).map(|place| 1_024 - place).collect();
+        let script = Script::new(catalog(1_024, 1) + &inserts(&[others, at_each(&gone, said)].concat()));
+        let commands: String = gone.iter().map(|uid| format!("drop user 'u{uid:03}';\n")).collect();
+        let time = bench.command(&script, &commands, 1) / leavers as f64;
+        let rows = gone.iter().map(|uid| rows_of_one(worlds, *uid as usize, gone.len(), said)).sum::<usize>() / gone.len();
+        row(&[worlds.to_string(), said.to_string(), rows.to_string(), ms(time), us(time / rows as f64)]);
+    }
+}
+
+/// How many rows change as a user leaves, behind whom nobody is left: in each world his edge goes, which is two rows. Where he states
+/// something, his world goes, with its three rows and the edges from it to all others, and of each statement three rows.
+fn rows_of_one(worlds_of_others: usize, uid: usize, leavers: usize, said: usize) -> usize {
+    let leaving_later = uid - (1_024 - leavers + 1);
+    if said == 0 {
+        2 * worlds_of_others + 1
+    } else {
+        2 * (worlds_of_others + leaving_later) + 1 + 3 + 2 * (uid - 1) + 3 * said
     }
 }
 

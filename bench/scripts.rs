@@ -77,6 +77,12 @@ pub fn at_one_path(uid: u32, count: usize) -> Vec<Stmt> {
     mixed(count).map(|number| statement(vec![uid], number)).collect()
 }
 
+/// So many statements of each of these users, each of a tuple of its own.
+pub fn at_each(users: &[u32], count: usize) -> Vec<Stmt> {
+    let of = |place: usize| move |at: usize| 1 + place * count + at;
+    users.iter().enumerate().flat_map(|(place, uid)| (0..count).map(of(place)).map(|number| statement(vec![*uid], number))).collect()
+}
+
 /// Statements of up to 1,600 different paths of two users each, over 1,000 tuples.
 pub fn at_many_paths(count: usize) -> Vec<Stmt> {
     let paths = 1_600;
