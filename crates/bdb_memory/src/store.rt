@@ -161,7 +161,8 @@ impl Store {
         forget(&mut self.rows, &mut self.changes);
     }
 
-    /// Commits the changes, and puts a row as if it had been committed with them. They stay committed where memory runs out.
+    /// Commits the changes, and puts a row as if that had been committed with them. Where memory runs out, the changes
+    /// are committed all the same.
     pub fn preset(&mut self, tab: u8, key: &[u8], row: &[u8]) -> Result<(), AllocError>
         ensures ok { OnOk result (let t = map.insert self.old.kept (tab ∷ key.now) row.now in
             self.new ≡ record { kept = t; last = t; changes = [] }) }
