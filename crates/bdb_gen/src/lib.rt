@@ -7,5 +7,4 @@ mod scripts;
 #[cfg(test)]
 mod tests;
 
-pub use draws::Draws;
 pub use scripts::generate;

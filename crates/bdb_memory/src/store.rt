@@ -161,8 +161,7 @@ impl Store {
         forget(&mut self.rows, &mut self.changes);
     }
 
-    /// Commits the changes, and puts a row as if that had been committed with them. Where memory runs out, the changes
-    /// are committed all the same.
+    /// Forgets the changes, and puts a row as if it had stood there.
     pub fn preset(&mut self, tab: u8, key: &[u8], row: &[u8]) -> Result<(), AllocError>
         ensures ok { OnOk result (let t = map.insert self.old.kept (tab ∷ key.now) row.now in
             self.new ≡ record { kept = t; last = t; changes = [] }) }
@@ -174,7 +173,7 @@ impl Store {
         Ok(())
     }
 
-    /// Commits the changes, and takes a row away as if that had been committed with them. It takes no memory.
+    /// Forgets the changes, and takes a row away as if it had not stood there. It takes no memory.
     pub fn unset(&mut self, tab: u8, key: &[u8])
         ensures { let t = map.remove self.old.kept (tab ∷ key.now) in self.new
             ≡ record { kept = t; last = t; changes = [] } }
