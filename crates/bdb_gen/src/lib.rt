@@ -7,4 +7,5 @@ mod scripts;
 #[cfg(test)]
 mod tests;
 
+pub use draws::Draws;
 pub use scripts::generate;

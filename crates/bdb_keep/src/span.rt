@@ -1,5 +1,5 @@
 // Rows with their keys, which were read at once or are to be written at once.
-ghost use Rattle.std.specs.Prelude.{◌≡◌, ◌+◌, ◌<◌, ◌≤◌, ◌∷◌, ◌++◌, [], OnOk, length, drop, slice_index_or};
+ghost use Rattle.std.specs.Prelude.{◌≡◌, ◌+◌, ◌<◌, ◌≤◌, ◌∷◌, ◌++◌, [], OnOk, length, slice_index_or};
 ghost use Rattle.std.specs.List.{slice_range};
 ghost use Rattle.bdb_keep.specs.Spans.{IsWithin, with_ends, with_four};
 

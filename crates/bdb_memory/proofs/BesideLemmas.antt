@@ -1,17 +1,17 @@
 -- Lemmas on places beside a spot, and on the shelf where they belong.
-use Rattle.std.proofs.Common.{◌≡◌, ℕ, zero, suc, ◌<◌, ◌≤◌, Bool, true, false, List, [], ◌∷◌, ◌++◌, length, get_or, Option, None, Less, Equal, Greater, refl, sym, ap, ◌∙◌, subst, arith, inl, inr}
+use Rattle.std.proofs.Common.{◌≡◌, ℕ, zero, suc, ◌<◌, ◌≤◌, Bool, true, false, List, [], ◌∷◌, ◌++◌, length, set, get_or, Option, Some, None, Less, Equal, Greater, refl, sym, ap, ◌∙◌, subst, arith, inl, inr}
 use Rattle.std.specs.Prelude.{IsTrue}
 use Rattle.std.specs.Ordering.{is_le, is_lt, is_eq, ordering_reverse}
 use Rattle.std.proofs.lemmas.Cmp.{nat_list_cmp_total, tied_itself}
 use mathlib.Core.Bool.{true≢false}
 use Rattle.bdb_keep.specs.Tables.{bytes_cmp}
-use Rattle.bdb_memory.specs.Entries.{Entries, AreAbove, NoneBelow, IsAscending}
+use Rattle.bdb_memory.specs.Entries.{Entries, place_at, IsSetAt, AreAbove, NoneBelow, IsAscending}
 use Rattle.bdb_memory.specs.Blocks.{joined, before, after, HaveEntries, AreSorted, IsBoundary, IsBlockFor, IsThere, entry_at, StandsAt, BelongsHere, starts_within}
-use Rattle.bdb_memory.specs.Shelves.{ReachesPlace, BelongsAmong, IsFirstRow}
+use Rattle.bdb_memory.specs.Shelves.{ReachesPlace, BelongsAmong, IsChangedAt, IsFirstRow}
 use Rattle.bdb_memory.proofs.EntriesLemmas.{AreApart, AreAbove-parts, ascending-parts}
 use Rattle.bdb_keep.proofs.OrderLemmas.{less_le, le_less, le_from_not_lt}
-use Rattle.bdb_memory.proofs.BlocksLemmas.{split, after-here, bound-below, bound-here, bound-behind, within-first, stands-found, gap-found, gap-end}
-use Rattle.bdb_memory.proofs.ShelvesLemmas.{passed-below, shelf-first}
+use Rattle.bdb_memory.proofs.BlocksLemmas.{split, after-here, bound-below, bound-here, bound-behind, within-first, stands-found, gap-found, gap-end, block-read}
+use Rattle.bdb_memory.proofs.ShelvesLemmas.{passed-below, shelf-first, shelf-place, shelf-set, sorted-put, set-itself}
 
 -- ---- entries among which a place belongs
 starts-from : (q : List ℕ) (xs : Entries) (e : List ℕ × Option (List ℕ)) (ys : Entries) → IsAscending (xs ++ e ∷ ys) → is_le (bytes_cmp e.0 q) ≡ true → starts_within q (xs ++ e ∷ ys) ≡ true
@@ -101,6 +101,26 @@ shelf-belongs bs q i last s h b e = record { block = h; starts = λ _. b.starts;
 -- a shelf that isn't the last one
 pub shelf-beside : (bs : List Entries) (q : List ℕ) (i : ℕ) → AreSorted bs → i < length bs → BelongsAmong (get_or bs i []) q false → IsBlockFor bs q i
 shelf-beside bs q i s h b = shelf-belongs bs q i false s h b (λ e. absurd (true≢false (sym e)))
+
+-- what follows for all shelves where something was put on the shelf where its place belongs
+pub shelf-put : (bs : List Entries) (old new : Entries) (q : List ℕ) (i : ℕ) (last : Bool) (r : Option (List ℕ)) → AreSorted bs → i < length bs → old ≡ get_or bs i old → BelongsAmong old q last → (last ≡ true → length bs ≤ suc i)
+    → IsChangedAt old new q (place_at old q) (Some r) → AreSorted (set bs i new) × ((place_at (joined bs) q ≡ place_at old q) × IsSetAt (joined bs) (joined (set bs i new)) q (Some r))
+shelf-put bs old new q i last r s h v b e c =
+    let read : old ≡ get_or bs i [] = block-read bs i old v h in
+    let shelf : IsBlockFor bs q i = shelf-belongs bs q i last s h (subst (λ es. BelongsAmong es q last) read b) e in
+    let change : IsChangedAt (get_or bs i []) new q (place_at old q) (Some r) = subst (λ es. IsChangedAt es new q (place_at old q) (Some r)) read c in (
+      sorted-put bs new q i (place_at old q) r s shelf change,
+      (shelf-place bs q i s shelf ∙ ap (λ es. place_at es q) (sym read), shelf-set bs new q i (place_at old q) (Some r) s shelf change),
+    )
+
+-- the same of a shelf that isn't the last one
+pub put-beside : (bs : List Entries) (old new : Entries) (q : List ℕ) (i : ℕ) (r : Option (List ℕ)) → AreSorted bs → i < length bs → old ≡ get_or bs i old → BelongsAmong old q false → IsChangedAt old new q (place_at old q) (Some r)
+    → AreSorted (set bs i new) × ((place_at (joined bs) q ≡ place_at old q) × IsSetAt (joined bs) (joined (set bs i new)) q (Some r))
+put-beside bs old new q i r s h v b c = shelf-put bs old new q i false r s h v b (λ e. absurd (true≢false (sym e))) c
+
+-- a shelf that stays changes nothing
+pub shelf-same : (bs : List Entries) (old new : Entries) (i : ℕ) → AreSorted bs → i < length bs → old ≡ get_or bs i old → new ≡ old → AreSorted (set bs i new) × (joined (set bs i new) ≡ joined bs)
+shelf-same bs old new i s h v e = let same = set-itself bs i new (e ∙ block-read bs i old v h) h in (subst AreSorted (sym same) s, ap joined same)
 
 -- the first row on the shelf where a place belongs
 pub first-beside : (bs : List Entries) (q : List ℕ) (i : ℕ) (e : List ℕ × Option (List ℕ)) → AreSorted bs → i < length bs → BelongsAmong (get_or bs i []) q false → IsFirstRow (get_or bs i []) q e → IsFirstRow (joined bs) q e

@@ -1,8 +1,7 @@
 -- The rows of entries whose places begin with some bytes.
-use Rattle.std.specs.Prelude.{◌≡◌, ℕ, ◌+◌, ◌⊎◌, false, cond, IsTrue}
+use Rattle.std.specs.Prelude.{◌≡◌, ℕ, ◌⊎◌, false, cond, IsTrue}
 use Rattle.std.specs.Prelude.{List, [], ◌∷◌, ◌++◌, drop, Option, Some, None}
 use Rattle.std.specs.Ordering.{is_le}
-use Rattle.std.specs.FinMap as map
 use Rattle.bdb_base.specs.Segments.{is_prefix}
 use Rattle.bdb_keep.specs.Tables.{bytes_cmp}
 use Rattle.bdb_memory.specs.Entries.{Entries}

@@ -88,7 +88,8 @@ pub fn put_row(
     ensures places { OnOk result
         (places_of changes.new.items ≡ places_of changes.old.items ++ (tab ∷ key.now) ∷ []) }
     ensures has { HavePlaces changes.new.items rows.new }
-    ensures err { OnErr result ((rows.new ≡ rows.old) × (changes.new.items ≡ changes.old.items)) }
+    ensures same { OnErr result (rows.new ≡ rows.old) }
+    ensures changes { OnErr result (changes.new.items ≡ changes.old.items) }
 {
     let probe = Probe::of(tab, key);
     if probe.is_long() {
@@ -121,7 +122,8 @@ fn put_far(
     ensures places { OnOk result
         (places_of changes.new.items ≡ places_of changes.old.items ++ (tab ∷ key.now) ∷ []) }
     ensures has { HavePlaces changes.new.items rows.new }
-    ensures err { OnErr result ((rows.new ≡ rows.old) × (changes.new.items ≡ changes.old.items)) }
+    ensures same { OnErr result (rows.new ≡ rows.old) }
+    ensures changes { OnErr result (changes.new.items ≡ changes.old.items) }
 {
     changes.reserve(1)?;
     let place = Place::far(alloc, tab, key)?;
@@ -149,7 +151,8 @@ pub fn take_row(
         ≡ (if found then places_of changes.old.items ++ place ∷ [] else
         places_of changes.old.items)) }
     ensures has { HavePlaces changes.new.items rows.new }
-    ensures err { OnErr result ((rows.new ≡ rows.old) × (changes.new.items ≡ changes.old.items)) }
+    ensures same { OnErr result (rows.new ≡ rows.old) }
+    ensures changes { OnErr result (changes.new.items ≡ changes.old.items) }
 {
     changes.reserve(1)?;
     match empty_place(rows, &place.probe()) {

@@ -82,7 +82,7 @@ impl Ledger {
 
     /// A ledger over committed rows, where nothing runs and nothing was counted but these faults.
     pub fn over(store: Store, faults: u64) -> Self
-        requires settled { store.kept ≡ store.last }
+        requires committed { store.kept ≡ store.last }
         requires tables { LieInTables store.kept }
         ensures { result ≡ record {
           seen = record {
@@ -325,6 +325,10 @@ impl Ledger {
         ensures rest { IsAtRest self.old.seen }
         ensures dropped { IsDropped self.old.seen self.new.seen }
         ensures rose { error ≡ KeepError.Fault → Rose self.old.seen.faults self.new.seen.faults }
+        ensures fault { error ≡ KeepError.Fault
+            → RoseBy 1 self.old.seen.faults self.new.seen.faults }
+        ensures memory { error ≡ KeepError.Memory
+            → self.new.seen.faults ≡ self.old.seen.faults }
         ensures counts { NeverFall self.old.seen self.new.seen }
         ensures reads { self.new.seen.reads ≡ self.old.seen.reads }
         ensures writes { self.new.seen.writes ≡ self.old.seen.writes }
@@ -341,6 +345,10 @@ impl Ledger {
         ensures rest { IsAtRest self.old.seen }
         ensures dropped { IsDropped self.old.seen self.new.seen }
         ensures rose { error ≡ KeepError.Fault → Rose self.old.seen.faults self.new.seen.faults }
+        ensures fault { error ≡ KeepError.Fault
+            → RoseBy 1 self.old.seen.faults self.new.seen.faults }
+        ensures memory { error ≡ KeepError.Memory
+            → self.new.seen.faults ≡ self.old.seen.faults }
         ensures counts { NeverFall self.old.seen self.new.seen }
         ensures reads { RoseBy 1 self.old.seen.reads self.new.seen.reads }
         ensures writes { self.new.seen.writes ≡ self.old.seen.writes }
@@ -354,6 +362,10 @@ impl Ledger {
         ensures rest { IsAtRest self.old.seen }
         ensures dropped { IsDropped self.old.seen self.new.seen }
         ensures rose { error ≡ KeepError.Fault → Rose self.old.seen.faults self.new.seen.faults }
+        ensures fault { error ≡ KeepError.Fault
+            → RoseBy 1 self.old.seen.faults self.new.seen.faults }
+        ensures memory { error ≡ KeepError.Memory
+            → self.new.seen.faults ≡ self.old.seen.faults }
         ensures counts { NeverFall self.old.seen self.new.seen }
         ensures reads { self.new.seen.reads ≡ self.old.seen.reads }
         ensures writes { RoseBy 1 self.old.seen.writes self.new.seen.writes }

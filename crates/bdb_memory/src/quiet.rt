@@ -57,8 +57,7 @@ impl QuietKeeper {
         self.ledger.preset(tab, key, row)
     }
 
-    /// Takes a row away as if that had been committed. It is no call of the trait, takes no memory, and looks at each
-    /// row.
+    /// Takes a row away as if that had been committed. It is no call of the trait, and takes no memory.
     pub fn unset(&mut self, tab: u8, key: &[u8])
         requires table { (1 ≤ tab) × (tab ≤ 15) }
         requires still { self.old.running ≡ false }

@@ -161,7 +161,8 @@ impl Store {
         forget(&mut self.rows, &mut self.changes);
     }
 
-    /// Forgets the changes, and puts a row as if it had stood there.
+    /// Commits the changes, and puts a row as if that had been committed with them. Where memory runs out, the changes
+    /// are committed all the same.
     pub fn preset(&mut self, tab: u8, key: &[u8], row: &[u8]) -> Result<(), AllocError>
         ensures ok { OnOk result (let t = map.insert self.old.kept (tab ∷ key.now) row.now in
             self.new ≡ record { kept = t; last = t; changes = [] }) }
@@ -173,7 +174,7 @@ impl Store {
         Ok(())
     }
 
-    /// Forgets the changes, and takes a row away as if it had not stood there. It takes no memory.
+    /// Commits the changes, and takes a row away as if that had been committed with them. It takes no memory.
     pub fn unset(&mut self, tab: u8, key: &[u8])
         ensures { let t = map.remove self.old.kept (tab ∷ key.now) in self.new
             ≡ record { kept = t; last = t; changes = [] } }

@@ -33,6 +33,20 @@ pub(crate) struct Selection {
     pub conds: List<Cond>,
 }
 
+impl Selection {
+    /// The statements of this path, sign and relation whose tuples meet these tests.
+    pub(crate) fn new(path: Path, sign: Sign, rel: u32, conds: List<Cond>) -> Self
+        ensures { result ≡ record { path = path; sign = sign; rel = rel; conds = conds } }
+    {
+        Selection {
+            path,
+            sign,
+            rel,
+            conds,
+        }
+    }
+}
+
 impl Session {
     /// Takes statements away within a transaction. `counts` become the sizes of the base after it. One alone takes no more writes,
     /// for each place at which the rows differ, than its path has users, and two; and eight more in all. Several take as many each,

@@ -80,12 +80,7 @@ impl Session {
                 rel,
                 conds,
             } => {
-                let selection = Selection {
-                    path,
-                    sign,
-                    rel,
-                    conds,
-                };
+                let selection = Selection::new(path, sign, rel, conds);
                 self.delete(keeper, &mut news.counts, &mut news.change, &selection)
             }
             Bound::Update {
@@ -95,12 +90,7 @@ impl Session {
                 sets,
                 conds,
             } => {
-                let selection = Selection {
-                    path,
-                    sign,
-                    rel,
-                    conds,
-                };
+                let selection = Selection::new(path, sign, rel, conds);
                 self.update(
                     keeper,
                     &mut news.counts,

@@ -1,5 +1,5 @@
 // Reads and writes of typed tables.
-ghost use Rattle.std.specs.Prelude.{◌≡◌, true, [], ◌∷◌, ◌++◌, IfOk, OnOk, is_some};
+ghost use Rattle.std.specs.Prelude.{◌≡◌, ◌↔◌, true, [], ◌∷◌, ◌++◌, IfOk, OnOk, is_some};
 ghost use Rattle.std.specs.Ordering.{is_le, is_lt};
 ghost use Rattle.std.specs.FinMap as map;
 ghost use Rattle.bdb_base.specs.Causes.{RoseBy};
@@ -388,7 +388,7 @@ fn row_from<T: Tab>(alloc: Global, bytes: &[u8]) -> Result<T::Row, AllocError>
 
 /// A keeper's error as a table's.
 pub fn table_error(error: KeepError) -> TabError
-    ensures { result ≡ TabError.Fault → error ≡ KeepError.Fault }
+    ensures { (result ≡ TabError.Fault) ↔ (error ≡ KeepError.Fault) }
 {
     match error {
         KeepError::Fault => TabError::Fault,

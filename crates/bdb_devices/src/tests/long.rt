@@ -6,7 +6,7 @@ use crate::tests::{
     Left, commands_in, parted, quiet_keeper, quiet_sink, quiet_source, ran_with, replies_in, told,
 };
 use bdb_base::List;
-use bdb_gen::generate;
+use bdb_gen::{Draws, generate};
 use bdb_memory::MemKeeper;
 use std::alloc::Global;
 use std::test::Fail;
@@ -23,30 +23,14 @@ const FAULTS: u32 = 60;
 /// How many calls there are at most from one that fails to the next one that fails.
 const GAP: u64 = 10_000;
 
-/// Numbers that follow from a seed.
-#[derive(Drop)]
-struct Draws {
-    state: u64,
-}
-
-impl Draws {
-    /// The next number, below the largest gap.
-    fn draw(&mut self) -> u32 {
-        self.state = self
-            .state
-            .wrapping_mul(6_364_136_223_846_793_005)
-            .wrapping_add(1_442_695_040_888_963_407);
-        ((self.state >> 33) % GAP) as u32
-    }
-}
-
 /// The calls that fail.
 fn failing(alloc: Global, seed: u64) -> Result<List<u32>, Fail> {
-    let mut draws = Draws { state: seed };
+    let mut draws = Draws::new(seed);
     let mut calls = List::new(alloc);
     let mut call: u32 = 0;
     for _ in 0..FAULTS {
-        call = call.saturating_add(draws.draw()).saturating_add(1);
+        let gap = draws.draw(GAP) as u32;
+        call = call.saturating_add(gap).saturating_add(1);
         calls.push(call)?;
     }
     Ok(calls)

@@ -1,8 +1,8 @@
 // A script with undo and redo of which a device fails: the base stands that the commands left which were done, also where the next
 // one was to take a change back.
 use crate::tests::{
-    End, Left, commands_in, ended, first_replies, left_by_call, left_by_none, left_by_read,
-    left_by_write, replies_in,
+    End, Left, commands_in, ended, first_replies, is_carried_out, left_by_call, left_by_read,
+    left_by_write,
 };
 use std::alloc::Global;
 use std::test::Fail;
@@ -107,11 +107,6 @@ fn each_read_fails_once(rt: HostRuntime) -> Result<(), Fail> {
 
 #[test]
 fn the_script_is_carried_out(rt: HostRuntime) -> Result<(), Fail> {
-    let alloc = rt.alloc();
-    assert_eq!(rt; commands_in(SCRIPT), COMMANDS);
-    assert_eq!(rt; replies_in(REPLIES), COMMANDS);
-    let left = left_by_none(alloc, SCRIPT)?;
-    assert_eq!(rt; left.status, 0);
-    assert_eq!(rt; left.out.bytes(), REPLIES);
+    assert!(rt; is_carried_out(rt.alloc(), SCRIPT, REPLIES, COMMANDS)?);
     Ok(())
 }

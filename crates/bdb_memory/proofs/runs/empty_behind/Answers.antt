@@ -1,36 +1,19 @@
-use Rattle.std.proofs.Common.{◌≡◌, ◌<◌, [], length, get_or, false, Some, None, sym, ap, ◌∙◌, subst, rules}
-use Rattle.bdb_memory.specs.Entries.{place_at}
-use Rattle.bdb_memory.specs.Blocks.{joined, AreSorted, IsBlockFor}
-use Rattle.bdb_memory.specs.Shelves.{IsChangedAt, BelongsAmong}
-use Rattle.bdb_memory.proofs.BlocksLemmas.{block-read}
-use Rattle.bdb_memory.proofs.ShelvesLemmas.{shelf-place, shelf-set, sorted-put, set-itself}
-use Rattle.bdb_memory.proofs.BesideLemmas.{shelf-beside}
+use Rattle.std.proofs.Common.{◌<◌, length, None, ◌∙◌, rules}
+use Rattle.bdb_memory.proofs.BesideLemmas.{put-beside, shelf-same}
 use Rattle.bdb_memory.proofs.runs.empty_behind.Goals as goal
 
 pub returns-in-Some : goal.returns-in-Some
 returns-in-Some c =
     let bs = c.args.shelves.now.items in
-    let q = c.args.probe.now in
     let i = c.args.cursor.0 in
     let within : i < length bs = search rules in
-    let old = c.index_mut.result.now in
-    let read : old ≡ get_or bs i [] = block-read bs i old c.index_mut.ensures.value within in
-    let shelf : IsBlockFor bs q i = shelf-beside bs q i c.requires within (subst (λ es. BelongsAmong es q false) read c.in-Some.ensures.belongs) in
-    let change : IsChangedAt (get_or bs i []) c.empty_behind.new.self q (place_at old q) (Some None) =
-    subst (λ es. IsChangedAt es c.empty_behind.new.self q (place_at old q) (Some None)) read c.in-Some.ensures.set in
-    record {
-      sorted = sorted-put bs c.empty_behind.new.self q i (place_at old q) None c.requires shelf change;
-      found = shelf-place bs q i c.requires shelf ∙ ap (λ es. place_at es q) (sym read) ∙ c.in-Some.ensures.found;
-      set = shelf-set bs c.empty_behind.new.self q i (place_at old q) (Some None) c.requires shelf change;
-      same = tt;
-    }
+    let put = put-beside bs c.index_mut.result.now c.empty_behind.new.self c.args.probe.now i None c.requires within c.index_mut.ensures.value c.in-Some.ensures.belongs c.in-Some.ensures.set in
+    record { sorted = put.0; found = put.1.0 ∙ c.in-Some.ensures.found; set = put.1.1; same = tt }
 
 pub returns-in-None : goal.returns-in-None
 returns-in-None c =
     let bs = c.args.shelves.now.items in
     let i = c.args.cursor.0 in
     let within : i < length bs = search rules in
-    let old = c.index_mut.result.now in
-    let read : old ≡ get_or bs i [] = block-read bs i old c.index_mut.ensures.value within in
-    let same = set-itself bs i c.empty_behind.new.self (c.in-None.ensures.same ∙ read) within in
-    record { sorted = subst AreSorted (sym same) c.requires; found = tt; set = tt; same = ap joined same }
+    let same = shelf-same bs c.index_mut.result.now c.empty_behind.new.self i c.requires within c.index_mut.ensures.value c.in-None.ensures.same in
+    record { sorted = same.0; found = tt; set = tt; same = same.1 }

@@ -4,4 +4,4 @@ use Rattle.bdb_memory.proofs.ledger.Ledger.over.Goals as goal
 
 -- src/ledger.rt:59:5
 pub invariant_of-result : goal.invariant_of-result
-invariant_of-result c = record { rest = λ _. c.requires.settled; kept = c.requires.tables; last = subst LieInTables c.requires.settled c.requires.tables }
+invariant_of-result c = record { rest = λ _. c.requires.committed; kept = c.requires.tables; last = subst LieInTables c.requires.committed c.requires.tables }
