@@ -45,6 +45,11 @@ live_name Gone = None
 abbrev pub name_at : List UserSlot → ℕ → Option (List ℕ)
 name_at users at = option_and_then live_name (slice_get users at)
 
+-- the user of a place is live, and is called so
+abbrev pub is_called : List ℕ → UserSlot → Bool
+is_called name (Live x) = same_text x name
+is_called name Gone = false
+
 -- a number is that of a live user: the places are numbered from 1
 abbrev pub is_user : List UserSlot → ℕ → Bool
 is_user users uid = nat_lt 0 uid && is_some (name_at users (uid - 1))

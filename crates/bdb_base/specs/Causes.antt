@@ -31,6 +31,6 @@ pub record HasCause {T E : Type 0} (before now : ℕ) (result : Result T E) (fau
 abbrev pub number_of_next : ℕ → ℕ
 number_of_next calls = min (calls + 1) (2 ^ 64 - 1)
 
--- whether a number is in a list
+-- a number is one of these
 abbrev pub is_listed : ℕ → List ℕ → Bool
-is_listed n fails = list_any (λ x. nat_eq x n) fails
+is_listed n ks = list_any (nat_eq n) ks

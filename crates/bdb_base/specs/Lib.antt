@@ -16,6 +16,7 @@ pub mod Changes
 pub mod Queries
 pub mod Safety
 pub mod Texts
+pub mod Letters
 pub mod Causes
 -- what other public promises and laws are made of
 pub mod BaseLaws

@@ -3,6 +3,7 @@
 #![tactic(auto)]
 
 mod base;
+mod calls;
 mod changes;
 mod conditions;
 mod conflict;
@@ -27,41 +28,107 @@ mod users;
 mod validity;
 
 pub use base::Base;
+pub use calls::is_listed;
+pub use calls::is_listed;
 pub use changes::changed;
-pub use conditions::{compares, meets};
-pub use conflict::{clash, key_length, key_of, same_key, same_tuple, same_value, same_values};
+pub use conditions::compares;
+pub use conditions::meets;
+pub use conflict::clash;
+pub use conflict::key_length;
+pub use conflict::key_of;
+pub use conflict::same_key;
+pub use conflict::same_tuple;
+pub use conflict::same_value;
+pub use conflict::same_values;
 pub use counts::distinct_tuples;
-pub use fitting::{are_printable, fits_relation, is_plain, is_written};
-pub use kinds::{
-    Catalog, Cmp, ColDef, Cond, Held, Item, Kind, Operand, Query, Ref, RelDef, SetCol, Sign, Stmt,
-    UserSlot, Value, What, Who, World,
-};
+pub use fitting::are_printable;
+pub use fitting::fits_relation;
+pub use fitting::is_plain;
+pub use fitting::is_written;
+pub use kinds::Catalog;
+pub use kinds::Cmp;
+pub use kinds::ColDef;
+pub use kinds::Cond;
+pub use kinds::Held;
+pub use kinds::Item;
+pub use kinds::Kind;
+pub use kinds::Operand;
+pub use kinds::Query;
+pub use kinds::Ref;
+pub use kinds::RelDef;
+pub use kinds::SetCol;
+pub use kinds::Sign;
+pub use kinds::Stmt;
+pub use kinds::UserSlot;
+pub use kinds::Value;
+pub use kinds::What;
+pub use kinds::Who;
+pub use kinds::World;
 pub use leaving::names_user;
-pub use list::{Exact, List};
-pub use order::{cmp_path, cmp_row, cmp_stmt, cmp_tuple, cmp_value};
-pub use ordered::{
-    Ordered, contains, loop_makes_set, members_make_set, place_of, put, put_adds_member, put_copy,
-    put_keeps_order, set_is_ascending, set_keeps_members, take, take_drops_member,
-    take_keeps_order,
-};
-pub use path::{Path, PathError};
-pub use segments::{path_is_prefix, path_is_suffix, path_tail};
+pub use list::Exact;
+pub use list::Lines;
+pub use list::List;
+pub use order::cmp_path;
+pub use order::cmp_row;
+pub use order::cmp_stmt;
+pub use order::cmp_tuple;
+pub use order::cmp_value;
+pub use ordered::Ordered;
+pub use ordered::contains;
+pub use ordered::loop_makes_set;
+pub use ordered::members_make_set;
+pub use ordered::place_of;
+pub use ordered::put;
+pub use ordered::put_adds_member;
+pub use ordered::put_copy;
+pub use ordered::put_keeps_order;
+pub use ordered::set_is_ascending;
+pub use ordered::set_keeps_members;
+pub use ordered::take;
+pub use ordered::take_drops_member;
+pub use ordered::take_keeps_order;
+pub use path::Path;
+pub use path::PathError;
+pub use segments::path_is_prefix;
+pub use segments::path_is_suffix;
+pub use segments::path_tail;
 pub use text::Txt;
-pub use texts::{
-    Printed, append_cmp, append_decimal, append_dotted, append_int, append_quoted,
-    append_separated, append_value,
-};
+pub use text::is_same_text;
+pub use texts::Printed;
+pub use texts::append_cmp;
+pub use texts::append_decimal;
+pub use texts::append_dotted;
+pub use texts::append_int;
+pub use texts::append_quoted;
+pub use texts::append_separated;
+pub use texts::append_value;
 pub use tuple::Tuple;
 pub use tuples::tuples_of;
-pub use update_laws::{delete_is_valid, update_is_valid};
-pub use user_laws::{
-    comes_back, drop_user_is_valid, gone_after_users_come, gone_after_users_leave, name_is_free,
-    name_is_given_again, numbers_are_counted, numbers_are_live, others_are_users,
-    others_keep_names, stands_without_user, statements_are_parted, states_name_others,
-    who_is_gone_is_no_user, who_leaves_is_gone,
-};
-pub use users::{is_user, live_count, name_at, user_name};
-pub use validity::{
-    add_relation_is_valid, add_user_is_valid, put_counts_statement, put_counts_tuple, put_is_valid,
-    take_is_valid,
-};
+pub use update_laws::delete_is_valid;
+pub use update_laws::update_is_valid;
+pub use user_laws::comes_back;
+pub use user_laws::drop_user_is_valid;
+pub use user_laws::gone_after_users_come;
+pub use user_laws::gone_after_users_leave;
+pub use user_laws::name_is_free;
+pub use user_laws::name_is_given_again;
+pub use user_laws::numbers_are_counted;
+pub use user_laws::numbers_are_live;
+pub use user_laws::others_are_users;
+pub use user_laws::others_keep_names;
+pub use user_laws::stands_without_user;
+pub use user_laws::statements_are_parted;
+pub use user_laws::states_name_others;
+pub use user_laws::who_is_gone_is_no_user;
+pub use user_laws::who_leaves_is_gone;
+pub use users::is_called;
+pub use users::is_user;
+pub use users::live_count;
+pub use users::name_at;
+pub use users::user_name;
+pub use validity::add_relation_is_valid;
+pub use validity::add_user_is_valid;
+pub use validity::put_counts_statement;
+pub use validity::put_counts_tuple;
+pub use validity::put_is_valid;
+pub use validity::take_is_valid;

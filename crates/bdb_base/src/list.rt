@@ -143,6 +143,9 @@ impl<X: Exact> Exact for List<X> {
     }
 }
 
+/// Commands of a session, in order, each without its semicolon.
+pub type Lines = List<List<u8>>;
+
 impl Exact for u32 {
     fn try_clone(&self, alloc: Global) -> Result<Self, AllocError> {
         Ok(*self)

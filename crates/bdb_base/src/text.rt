@@ -1,5 +1,6 @@
 // Text, seen as its bytes.
 ghost use Rattle.std.specs.Prelude.{◌≡◌, ◌==◌, IfOk, length};
+ghost use Rattle.bdb_base.specs.Same.{same_text};
 
 use crate::list::Exact;
 use std::alloc::{AllocError, Global};
@@ -62,4 +63,11 @@ impl Exact for Txt {
     fn try_clone(&self, alloc: Global) -> Result<Self, AllocError> {
         Txt::try_new(alloc, self.text.as_str())
     }
+}
+
+/// Whether two texts are the same.
+pub fn is_same_text(a: &Txt, b: &Txt) -> bool
+    ensures { result ≡ same_text a.now b.now }
+{
+    a.as_bytes() == b.as_bytes()
 }

@@ -1,12 +1,12 @@
 // The users of a catalog, by number and by place.
 ghost use Rattle.std.specs.Prelude.{◌≡◌, ◌-◌, ◌≤◌, ◌<◌, filter, length, slice_set};
 ghost use Rattle.std.specs.Option.{is_some, option_copied};
-ghost use Rattle.bdb_base.specs.Bases.{is_user, live_name, name_at, user_names};
+ghost use Rattle.bdb_base.specs.Bases.{is_called, is_user, live_name, name_at, user_names};
 ghost use Rattle.bdb_base.specs.Queries.{user_name};
 
 use crate::kinds::UserSlot;
 use crate::list::List;
-use crate::text::Txt;
+use crate::text::{Txt, is_same_text};
 
 impl UserSlot {
     /// The name of a live user; none of one who is gone.
@@ -17,6 +17,16 @@ impl UserSlot {
             UserSlot::Live(name) => Some(name),
             UserSlot::Gone => None,
         }
+    }
+}
+
+/// Whether the user of a place is live, and is called so.
+pub fn is_called(name: &Txt, user: &UserSlot) -> bool
+    ensures { result ≡ is_called name.now user.now }
+{
+    match user {
+        UserSlot::Live(live) => is_same_text(live, name),
+        UserSlot::Gone => false,
     }
 }
 

@@ -13,7 +13,7 @@ use Rattle.bdb_base.specs.declared.kinds.UserSlot.TheVariants.{Live, Gone}
 use Rattle.bdb_base.specs.declared.kinds.Value.{Value}
 use Rattle.bdb_base.specs.declared.kinds.Value.TheVariants.{Int, Text}
 use Rattle.bdb_base.specs.Same.{same_text, same_kind}
-use Rattle.bdb_base.specs.Bases.{is_clean, is_plain, fits_kind, fits_columns, are_distinct, user_names}
+use Rattle.bdb_base.specs.Bases.{is_clean, is_plain, fits_kind, fits_columns, are_distinct, user_names, is_called}
 use Rattle.bdb_base.specs.Safety.{one_kind}
 use Rattle.bdb_base.proofs.OptionLemmas.{some_of}
 use Rattle.bdb_base.proofs.SegmentLemmas.{same_text_is, same_text_itself}
@@ -22,7 +22,7 @@ use Rattle.bdb_syntax.specs.declared.command.RawCond.{RawCond}
 use Rattle.bdb_syntax.specs.declared.command.RawSide.{RawSide}
 use Rattle.bdb_syntax.specs.declared.command.RawSide.TheVariants.{Col, Lit}
 use Rattle.bdb_syntax.specs.declared.command.RawSet.{RawSet}
-use Rattle.bdb_bind.specs.Lookup.{is_called, column_at, has_column, kind_at, path_of}
+use Rattle.bdb_bind.specs.Lookup.{column_at, has_column, kind_at, path_of}
 use Rattle.bdb_bind.specs.Parts.{path_names, depth_limit, value_texts, side_texts, cond_columns, side_columns, is_long}
 use Rattle.bdb_bind.specs.Kinds.{kind_of}
 use Rattle.bdb_bind.specs.Lines.{first_repeated, misfit, side_kind, fits_set, fits_cond}

@@ -5,12 +5,11 @@ use Rattle.std.proofs.lemmas.Bool.{cases_Bool, cond-true, cond-false, and_parts,
 use Rattle.std.proofs.lemmas.Option.{none-some}
 use Rattle.bdb_base.specs.declared.kinds.UserSlot.{UserSlot}
 use Rattle.bdb_base.specs.declared.kinds.UserSlot.TheVariants.{Live, Gone}
-use Rattle.bdb_base.specs.Bases.{are_distinct, user_names}
+use Rattle.bdb_base.specs.Bases.{are_distinct, user_names, is_called}
 use Rattle.bdb_base.specs.Same.{same_text}
 use Rattle.bdb_base.proofs.UserLemmas.{name_found, named_at, apart_from}
 use Rattle.bdb_base.proofs.SegmentLemmas.{same_text_is}
 use Rattle.bdb_bind.specs.Indexes.{but_of, WhoLeavesIsForgotten}
-use Rattle.bdb_bind.specs.Lookup.{is_called}
 use Rattle.bdb_bind.proofs.FitLemmas.{differs_turned}
 
 -- a name that none of the live users has isn't found

@@ -6,7 +6,8 @@ use Rattle.bdb_base.specs.declared.kinds.UserSlot.{UserSlot}
 use Rattle.bdb_base.specs.declared.kinds.UserSlot.TheVariants.{Live, Gone}
 use Rattle.bdb_base.specs.Same.{same_text}
 use Rattle.bdb_base.proofs.SegmentLemmas.{same_text_is, same_text_itself}
-use Rattle.bdb_bind.specs.Lookup.{is_called, uid_of}
+use Rattle.bdb_base.specs.Bases.{is_called}
+use Rattle.bdb_bind.specs.Lookup.{uid_of}
 
 -- what is found at a place: an item that passes, the first that does
 pub record IsFound {X : Type 0} (p : X → Bool) (start : ℕ) (xs : List X) (k : ℕ) : Type 0 where

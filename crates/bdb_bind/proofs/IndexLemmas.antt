@@ -9,8 +9,9 @@ use Rattle.bdb_base.specs.declared.kinds.UserSlot.{UserSlot}
 use Rattle.bdb_base.specs.declared.kinds.UserSlot.TheVariants.{Live, Gone}
 use Rattle.bdb_base.specs.Same.{same_text}
 use Rattle.bdb_base.proofs.SegmentLemmas.{same_text_is}
+use Rattle.bdb_base.specs.Bases.{is_called}
 use Rattle.bdb_bind.specs.Indexes.{or_place, or_slot, user_place}
-use Rattle.bdb_bind.specs.Lookup.{is_called, relation_number}
+use Rattle.bdb_bind.specs.Lookup.{relation_number}
 
 pushed : {X : Type 0} (p : X → Bool) (start : ℕ) (xs : List X) (x : X) (n : ℕ) → n ≡ start + length xs
     → position_from p start (xs ++ x ∷ []) ≡ option_or (position_from p start xs) (cond (p x) (Some n) None)

@@ -7,8 +7,8 @@ use Rattle.std.proofs.lemmas.List.{take_more, map-append}
 use Rattle.std.proofs.lemmas.Bool.{cases_Bool, cond-false, and_from, and_parts, or_parts, eqb-true, not_from_false}
 use Rattle.bdb_base.specs.declared.kinds.UserSlot.{UserSlot}
 use Rattle.bdb_base.specs.Alternation.{alternates, begins_otherwise}
-use Rattle.bdb_base.specs.Bases.{live_name, name_at, is_user}
-use Rattle.bdb_bind.specs.Lookup.{is_called, uid_of, is_user_name, uid_at, path_of}
+use Rattle.bdb_base.specs.Bases.{live_name, name_at, is_user, is_called}
+use Rattle.bdb_bind.specs.Lookup.{uid_of, is_user_name, uid_at, path_of}
 use Rattle.bdb_bind.specs.Lines.{begins_with, has_repeat}
 use Rattle.bdb_base.proofs.UserLemmas.{user_at_place}
 use Rattle.bdb_base.proofs.OptionLemmas.{some_of}

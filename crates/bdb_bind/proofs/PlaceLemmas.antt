@@ -6,11 +6,11 @@ use Rattle.std.proofs.lemmas.Bool.{cases_Bool, cond-true, cond-false, and_parts,
 use Rattle.bdb_base.specs.declared.kinds.RelDef.{RelDef}
 use Rattle.bdb_base.specs.declared.kinds.UserSlot.{UserSlot}
 use Rattle.bdb_base.specs.declared.kinds.UserSlot.TheVariants.{Live, Gone}
-use Rattle.bdb_base.specs.Bases.{are_distinct, user_names}
+use Rattle.bdb_base.specs.Bases.{are_distinct, user_names, is_called}
 use Rattle.bdb_base.specs.Same.{same_text}
 use Rattle.bdb_base.specs.Queries.{columns_of_definition}
 use Rattle.bdb_base.proofs.SegmentLemmas.{same_text_is}
-use Rattle.bdb_bind.specs.Lookup.{is_called, is_called_at, uid_of, is_name, relation_number, columns_of}
+use Rattle.bdb_bind.specs.Lookup.{is_called_at, uid_of, is_name, relation_number, columns_of}
 use Rattle.bdb_bind.proofs.Founds.{found}
 
 -- a name of a list is among the names

@@ -6,11 +6,11 @@ use Rattle.std.specs.List.{position_from}
 use Rattle.bdb_base.specs.declared.kinds.Catalog.{Catalog}
 use Rattle.bdb_base.specs.declared.kinds.UserSlot.{UserSlot}
 use Rattle.bdb_base.specs.declared.kinds.UserSlot.TheVariants.{Live, Gone}
-use Rattle.bdb_base.specs.Bases.{are_distinct, user_names, without_user}
+use Rattle.bdb_base.specs.Bases.{are_distinct, user_names, without_user, is_called}
 use Rattle.bdb_base.specs.Queries.{user_name}
 use Rattle.bdb_base.specs.Same.{same_text}
 use Rattle.bdb_bind.specs.declared.index.NameIndex.{NameIndex}
-use Rattle.bdb_bind.specs.Lookup.{is_called, relation_number}
+use Rattle.bdb_bind.specs.Lookup.{relation_number}
 
 -- what is told of a name, where nothing was told before: its place
 abbrev pub or_place : Option ℕ → List ℕ → ℕ → List ℕ → Option ℕ

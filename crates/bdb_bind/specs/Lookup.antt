@@ -6,14 +6,9 @@ use Rattle.bdb_base.specs.declared.kinds.Kind.{Kind}
 use Rattle.bdb_base.specs.declared.kinds.ColDef.{ColDef}
 use Rattle.bdb_base.specs.declared.kinds.RelDef.{RelDef}
 use Rattle.bdb_base.specs.declared.kinds.UserSlot.{UserSlot}
-use Rattle.bdb_base.specs.declared.kinds.UserSlot.TheVariants.{Live, Gone}
+use Rattle.bdb_base.specs.Bases.{is_called}
 use Rattle.bdb_base.specs.Same.{same_text}
 use Rattle.bdb_base.specs.Queries.{columns_of_definition}
-
--- the user of a place is live, and is called so
-abbrev pub is_called : List ℕ → UserSlot → Bool
-is_called name (Live x) = same_text x name
-is_called name Gone = false
 
 -- there is such a place, its user is live, and is called so
 abbrev pub is_called_at : List ℕ → Option UserSlot → Bool

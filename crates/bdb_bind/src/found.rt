@@ -11,10 +11,10 @@ ghost use Rattle.bdb_bind.specs.Parts.{relation_place, change_columns};
 
 use crate::bound::BindError;
 use crate::index::NameIndex;
-use crate::lookup::{is_called, is_same, uid_of};
+use crate::lookup::uid_of;
 use crate::parts::relation_name;
 use crate::refusals::unknown_user;
-use bdb_base::{Catalog, ColDef, List, RelDef, Txt, UserSlot};
+use bdb_base::{Catalog, ColDef, List, RelDef, Txt, UserSlot, is_called, is_same_text};
 use bdb_syntax::Command;
 use std::alloc::Global;
 
@@ -68,7 +68,7 @@ fn is_relation_at(rels: &[RelDef], at: usize, name: &Txt) -> bool
     ensures within { result ≡ true → at < length rels.now }
 {
     match rels.get(at) {
-        Some(rel) => is_same(&rel.name, name),
+        Some(rel) => is_same_text(&rel.name, name),
         None => false,
     }
 }
@@ -79,7 +79,7 @@ fn search<'a>(rels: &'a [RelDef], name: &Txt) -> FoundRelation<'a>
     ensures cols { result.cols.now ≡ columns_of rels.now name.now }
 {
     for (at, rel) in rels.iter().enumerate() {
-        if is_same(&rel.name, name) {
+        if is_same_text(&rel.name, name) {
             return FoundRelation {
                 place: Some(at),
                 cols: rel.cols.as_slice(),

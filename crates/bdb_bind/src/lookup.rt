@@ -1,26 +1,10 @@
 // Looking names up in a catalog.
 ghost use Rattle.std.specs.Prelude.{◌≡◌, ◌<◌, ◌≤◌, length, IfSome};
 ghost use Rattle.bdb_base.specs.Same.{same_text};
-ghost use Rattle.bdb_bind.specs.Lookup.{is_called, uid_of, relation_number, columns_of, column_at, kind_at};
+ghost use Rattle.bdb_base.specs.Bases.{is_called};
+ghost use Rattle.bdb_bind.specs.Lookup.{uid_of, relation_number, columns_of, column_at, kind_at};
 
-use bdb_base::{ColDef, Kind, RelDef, Txt, UserSlot};
-
-/// Whether two names are the same.
-pub fn is_same(a: &Txt, b: &Txt) -> bool
-    ensures { result ≡ same_text a.now b.now }
-{
-    a.as_bytes() == b.as_bytes()
-}
-
-/// Whether the user of a place is live, and is called so.
-pub fn is_called(name: &Txt, user: &UserSlot) -> bool
-    ensures { result ≡ is_called name.now user.now }
-{
-    match user {
-        UserSlot::Live(live) => is_same(live, name),
-        UserSlot::Gone => false,
-    }
-}
+use bdb_base::{ColDef, Kind, RelDef, Txt, UserSlot, is_called, is_same_text};
 
 /// The uid of a live user's name: the places of users are numbered from 1.
 pub fn uid_of(users: &[UserSlot], name: &Txt) -> Option<usize>
@@ -41,7 +25,7 @@ pub fn number_of(rels: &[RelDef], name: &Txt) -> Option<usize>
     ensures within { IfSome result (λ number. number < length rels.now) }
 {
     for (at, rel) in rels.iter().enumerate() {
-        if is_same(&rel.name, name) {
+        if is_same_text(&rel.name, name) {
             return Some(at);
         }
     }
@@ -53,7 +37,7 @@ pub fn columns_of<'a>(rels: &'a [RelDef], name: &Txt) -> &'a [ColDef]
     ensures { result.now ≡ columns_of rels.now name.now }
 {
     for rel in rels {
-        if is_same(&rel.name, name) {
+        if is_same_text(&rel.name, name) {
             return rel.cols.as_slice();
         }
     }
@@ -66,7 +50,7 @@ pub fn column_at(cols: &[ColDef], name: &Txt) -> Option<usize>
     ensures within { IfSome result (λ place. place < length cols.now) }
 {
     for (at, col) in cols.iter().enumerate() {
-        if is_same(&col.name, name) {
+        if is_same_text(&col.name, name) {
             return Some(at);
         }
     }
@@ -78,7 +62,7 @@ pub fn kind_at(cols: &[ColDef], name: &Txt) -> Option<Kind>
     ensures { result ≡ kind_at cols.now name.now }
 {
     for col in cols {
-        if is_same(&col.name, name) {
+        if is_same_text(&col.name, name) {
             return Some(col.kind);
         }
     }

@@ -12,10 +12,10 @@ ghost use Rattle.bdb_bind.specs.Lines.{unknown_relation, unknown_user, missing_c
 use crate::bound::BindError;
 use crate::found::find_users;
 use crate::index::NameIndex;
-use crate::lookup::{column_at, is_same, number_of, uid_of};
+use crate::lookup::{column_at, number_of, uid_of};
 use crate::parts::{path_names, relation_name};
 use crate::refusals::{taken_name, taken_user, unknown_column, unknown_relation};
-use bdb_base::{Catalog, ColDef, List, Txt};
+use bdb_base::{Catalog, ColDef, List, Txt, is_same_text};
 use bdb_syntax::{Command, RawCond, RawSet, RawSide};
 use std::alloc::Global;
 
@@ -142,5 +142,5 @@ fn check_repeated(alloc: Global, cols: &[ColDef]) -> Result<(), BindError>
 fn has_name(cols: &[ColDef], name: &Txt) -> bool
     ensures { result ≡ list_any (λ d. same_text name.now d.name) cols.now }
 {
-    cols.iter().any(|col| is_same(name, &col.name))
+    cols.iter().any(|col| is_same_text(name, &col.name))
 }

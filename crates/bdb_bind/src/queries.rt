@@ -7,12 +7,12 @@ ghost use Rattle.bdb_bind.specs.QueryLines.{query_items, item_relation, query_re
 
 use crate::bound::BindError;
 use crate::kinds::{kind_of, one_kind};
-use crate::lookup::{is_same, number_of, uid_of};
+use crate::lookup::{number_of, uid_of};
 use crate::query_items::QueryItems;
 use crate::refusals::{unknown_relation, unknown_user, wrong_query_kind};
 use crate::scope::{is_users, kind_named};
 use bdb_base::limits::{DEEPEST_QUERY, MOST_ITEMS, MOST_SELECT_COLUMNS};
-use bdb_base::{Kind, RelDef, Txt, UserSlot};
+use bdb_base::{Kind, RelDef, Txt, UserSlot, is_same_text};
 use bdb_syntax::{RawCond, RawItem, RawQuery, RawSide, RawWho};
 use std::alloc::Global;
 
@@ -123,7 +123,7 @@ fn begins_with_name(name: &Txt, path: &[RawWho]) -> bool
 {
     match path {
         [] => false,
-        [RawWho::Name(first), ..] => is_same(name, first),
+        [RawWho::Name(first), ..] => is_same_text(name, first),
         [RawWho::Col(_), ..] => false,
     }
 }

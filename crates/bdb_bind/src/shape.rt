@@ -4,10 +4,9 @@ ghost use Rattle.bdb_bind.specs.Firsts.{Checks};
 ghost use Rattle.bdb_bind.specs.Lines.{text_line, too_many_columns, is_key_length, key_line, begins_with, has_repeat, path_repeats, path_too_deep, change_arity};
 
 use crate::bound::BindError;
-use crate::lookup::is_same;
 use crate::parts::{depth_limit, has_long_text, new_columns, new_key, path_names, tuple_values};
 use bdb_base::limits::MOST_COLUMNS;
-use bdb_base::{ColDef, Txt};
+use bdb_base::{ColDef, Txt, is_same_text};
 use bdb_syntax::Command;
 
 /// Refuses a text that is too long.
@@ -84,7 +83,7 @@ fn begins_with(name: &Txt, names: &[Txt]) -> bool
 {
     match names {
         [] => false,
-        [first, ..] => is_same(name, first),
+        [first, ..] => is_same_text(name, first),
     }
 }
 

@@ -12,10 +12,10 @@ ghost use Rattle.bdb_session.specs.Outcome.{State};
 ghost use Rattle.bdb_crowd.specs.Due.{IsDone, IsRunBy, IsTextTold, IsWaiting, due_to, end_line};
 
 use crate::write::{write_count, write_labelled, write_line};
-use bdb_base::List;
+use bdb_base::{Lines, List};
 use bdb_io::{Failed, Sink};
 use bdb_keep::Keeper;
-use bdb_multi::{Act, Lines};
+use bdb_multi::Act;
 use bdb_session::{BatchReply, Session, StopError};
 use bdb_stream::RunError;
 use std::alloc::Global;

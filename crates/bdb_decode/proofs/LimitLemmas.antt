@@ -15,13 +15,14 @@ use Rattle.bdb_base.specs.declared.kinds.Catalog.{Catalog}
 use Rattle.bdb_base.specs.declared.kinds.Stmt.{Stmt}
 use Rattle.bdb_base.proofs.BaseLemmas.{belongs_parts}
 use Rattle.bdb_base.proofs.SegmentLemmas.{length-prefix}
+use Rattle.bdb_base.specs.Causes.{is_listed}
 use Rattle.bdb_catalog.specs.Bases.{StoresValid}
 use Rattle.bdb_keep.specs.Tables.{Tables}
 use Rattle.bdb_key.proofs.Readings.{all_push}
 use Rattle.bdb_names.proofs.NameLemmas.{path_is_named}
 use Rattle.bdb_tables.specs.InUse.{depth_codec}
 use Rattle.bdb_tables.specs.InUseLaws.{numbers_in_order}
-use Rattle.bdb_tables.specs.Names.{Names, is_listed}
+use Rattle.bdb_tables.specs.Names.{Names}
 use Rattle.bdb_tables.specs.Raw.{IsForeignFrom}
 use Rattle.bdb_tables.specs.Spans.{HasNextUnder, IsNextUnder, IsUnder, entry_cmp}
 use Rattle.bdb_tables.specs.States.{HoldsStates}

@@ -3,9 +3,11 @@ use Rattle.std.proofs.Common.{◌≡◌, ◌∙◌, ◌≤◌, ◌^◌, ℕ, suc
 use Rattle.std.specs.List.{list_all, list_any, slice_get}
 use Rattle.std.proofs.lemmas.Bool.{and_from, cases_lt, false≢true, leb-true}
 use Rattle.std.proofs.lemmas.Option.{slice_get_past}
-use Rattle.bdb_base.specs.Bases.{IsCatalog, are_distinct, is_plain, is_valid_relation, user_names}
+use Rattle.bdb_base.specs.Bases.{IsCatalog, are_distinct, is_plain, is_called, is_valid_relation, user_names}
 use Rattle.bdb_base.specs.Limits.{most_users, most_relations}
 use Rattle.bdb_base.specs.Same.{same_text}
+use Rattle.bdb_base.specs.SameLemmas.{same_text-Decides}
+use Rattle.bdb_base.proofs.ClashLemmas.{turned}
 use Rattle.bdb_base.specs.declared.kinds.Catalog.{Catalog}
 use Rattle.bdb_base.specs.declared.kinds.RelDef.{RelDef}
 use Rattle.bdb_base.specs.declared.kinds.UserSlot.{UserSlot}
@@ -16,7 +18,7 @@ use Rattle.bdb_tables.specs.InUseLaws.{slot_rows_are_one, rel_rows_are_one}
 use Rattle.bdb_tables.specs.Stored.{slot_of}
 use Rattle.bdb_tables.proofs.CatalogLemmas.{same_by_place}
 use Rattle.bdb_tables.proofs.WriteLemmas.{gives_one}
-use Rattle.bdb_entries.specs.Catalog.{HasCatalog, HasRelations, HasUserPlaces, TellsRelations, TellsUsers, names_differ, are_relations, are_users, has_plain_name, is_called, is_catalog, slots_differ}
+use Rattle.bdb_entries.specs.Catalog.{HasCatalog, HasRelations, HasUserPlaces, TellsRelations, TellsUsers, names_differ, are_relations, are_users, has_plain_name, is_catalog, slots_differ}
 
 -- a test of the items of a list, and of what they are taken to
 any_named : {X N : Type 0} (f : X → N) (p : N → Bool) (xs : List X) → list_any (λ x. p (f x)) xs ≡ list_any p (map f xs)
@@ -33,7 +35,8 @@ differ_are_distinct f (x ∷ xs) =
 
 any_called : (name : List ℕ) (us : List UserSlot) → list_any (is_called name) us ≡ list_any (same_text name) (user_names us)
 any_called name [] = refl
-any_called name (Live other ∷ us) = ap (λ b. same_text name other || b) (any_called name us)
+any_called name (Live other ∷ us) =
+    ap (λ b. b || list_any (is_called name) us) (turned same_text same_text-Decides other name) ∙ ap (λ b. same_text name other || b) (any_called name us)
 any_called name (Gone ∷ us) = any_called name us
 
 pub slots_are_distinct : (us : List UserSlot) → slots_differ us ≡ are_distinct (user_names us)

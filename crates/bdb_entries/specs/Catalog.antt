@@ -1,7 +1,7 @@
 -- What reading the users and the relations of tables of any bytes tells.
 use Rattle.std.specs.Prelude.{ℕ, ◌≤◌, ◌^◌, ◌+◌, Bool, true, false, not, ◌&&◌, nat_le, List, [], ◌∷◌, Option, MatchOption, length, map}
 use Rattle.std.specs.List.{list_all, list_any, slice_get}
-use Rattle.bdb_base.specs.Bases.{IsCatalog, are_distinct, is_plain, is_valid_relation, user_names}
+use Rattle.bdb_base.specs.Bases.{IsCatalog, are_distinct, is_called, is_plain, is_valid_relation, user_names}
 use Rattle.bdb_base.specs.Limits.{most_users, most_relations}
 use Rattle.bdb_base.specs.Same.{same_text}
 use Rattle.bdb_base.specs.declared.kinds.Catalog.{Catalog}
@@ -47,11 +47,6 @@ TellsCatalog t found = MatchOption found ((c : Catalog) → HasCatalog t c → �
 abbrev pub names_differ : {X : Type 0} → (X → List ℕ) → List X → Bool
 names_differ f [] = true
 names_differ f (x ∷ xs) = not (list_any (λ y. same_text (f x) (f y)) xs) && names_differ f xs
-
--- a place has a live user of a name
-abbrev pub is_called : List ℕ → UserSlot → Bool
-is_called name (Live other) = same_text name other
-is_called name Gone = false
 
 -- one of these users has the name of the live user of a place
 abbrev pub has_name_of : List UserSlot → UserSlot → Bool

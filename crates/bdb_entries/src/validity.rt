@@ -1,13 +1,13 @@
 // Whether users and relations are those of a valid base.
 ghost use Rattle.std.specs.Prelude.{◌≡◌, ◌&&◌, ℕ, nat_le, nat_lt, not, List, length, map};
 ghost use Rattle.std.specs.List.{list_all, list_any};
-ghost use Rattle.bdb_base.specs.Bases.{are_distinct, is_key, is_plain, is_valid_relation, user_names, users_name};
+ghost use Rattle.bdb_base.specs.Bases.{are_distinct, is_called, is_key, is_plain, is_valid_relation, user_names, users_name};
 ghost use Rattle.bdb_base.specs.Limits.{most_columns};
 ghost use Rattle.bdb_base.specs.Same.{same_text};
-ghost use Rattle.bdb_entries.specs.Catalog.{are_relations, are_users, has_name_of, has_plain_name, is_called, is_catalog, names_differ, slots_differ};
+ghost use Rattle.bdb_entries.specs.Catalog.{are_relations, are_users, has_name_of, has_plain_name, is_catalog, names_differ, slots_differ};
 
 use bdb_base::limits::{MOST_COLUMNS, MOST_RELATIONS, MOST_USERS};
-use bdb_base::{Catalog, ColDef, RelDef, Txt, UserSlot, is_plain};
+use bdb_base::{Catalog, ColDef, RelDef, Txt, UserSlot, is_called, is_plain, is_same_text};
 
 /// Whether users and relations are those of a valid base.
 pub fn is_catalog(catalog: &Catalog) -> bool
@@ -68,16 +68,6 @@ fn has_user(users: &[UserSlot], name: &Txt) -> bool
     ensures { result ≡ list_any (is_called name.now) users.now }
 {
     users.iter().any(|slot| is_called(name, slot))
-}
-
-// Whether a place is that of a live user of this name.
-fn is_called(name: &Txt, slot: &UserSlot) -> bool
-    ensures { result ≡ is_called name.now slot.now }
-{
-    match slot {
-        UserSlot::Live(other) => is_same(name, other),
-        UserSlot::Gone => false,
-    }
 }
 
 // Whether the names of live users are plain.
@@ -229,12 +219,5 @@ fn names_differ<X: HasName>(items: &[X]) -> bool
 fn has_name<X: HasName>(items: &[X], name: &Txt) -> bool
     ensures { result ≡ list_any (λ x. same_text name.now (X.name_of x)) items.now }
 {
-    items.iter().any(|item| is_same(name, item.name()))
-}
-
-// Whether two names are the same.
-fn is_same(a: &Txt, b: &Txt) -> bool
-    ensures { result ≡ same_text a.now b.now }
-{
-    a.as_bytes() == b.as_bytes()
+    items.iter().any(|item| is_same_text(name, item.name()))
 }

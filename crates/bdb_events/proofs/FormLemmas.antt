@@ -3,7 +3,7 @@ use Rattle.std.proofs.Common.{◌≡◌, ◌∙◌, ℕ, ◌+◌, ◌-◌, ◌*�
 use Rattle.std.specs.List.{list_all}
 use Rattle.std.specs.Char.{is_ascii_digit}
 use Rattle.std.proofs.lemmas.Bool.{cases_Bool, and_parts, and_from, and_left, or_from, cond-true, cond-false, ltb-true, lt-ltb, false≢true}
-use Rattle.bdb_lex.specs.Bytes.{is_blank}
+use Rattle.bdb_base.specs.Letters.{is_blank}
 use Rattle.bdb_lex.specs.Reading.{begins, begins_gap, behind_gaps}
 use Rattle.bdb_lex.proofs.TokenLemmas.{no_blank, blank_is, digit_no_dash}
 use Rattle.bdb_multi.specs.Sessions.{sessions}

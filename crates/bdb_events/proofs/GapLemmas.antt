@@ -2,7 +2,7 @@
 use Rattle.std.proofs.Common.{◌≡◌, ◌∙◌, ℕ, Bool, true, false, not, ◌&&◌, nat_eq, Some, List, [], ◌∷◌, ◌++◌, refl, ap, sym, subst, append_assoc, inl, inr}
 use Rattle.std.specs.List.{list_all}
 use Rattle.std.proofs.lemmas.Bool.{cases_Bool, or_left, and_parts, and_from, eqb-true, false≢true, not-true, not_from_false}
-use Rattle.bdb_lex.specs.Bytes.{is_blank}
+use Rattle.bdb_base.specs.Letters.{is_blank}
 use Rattle.bdb_lex.specs.Reading.{begins, begins_gap, behind, behind_gaps}
 use Rattle.bdb_lex.specs.Spans.{Span, spelled, bytes_of, lacks, may_stand, all_stand}
 use Rattle.bdb_lex.specs.Spans.Span.{end, text, comment, byte, open_text, open_comment}

@@ -2,7 +2,7 @@
 use Rattle.std.specs.Prelude.{◌≡◌, ◌↔◌, ℕ, ◌<◌, ◌+◌, ◌-◌, ◌*◌, Bool, true, false, ◌&&◌, Some, List, [], ◌∷◌, ◌++◌, codes}
 use Rattle.std.specs.Char.{is_ascii_digit}
 use Rattle.std.specs.List.{list_all}
-use Rattle.bdb_lex.specs.Bytes.{is_blank}
+use Rattle.bdb_base.specs.Letters.{is_blank}
 use Rattle.bdb_lex.specs.Reading.{begins, behind_gaps}
 use Rattle.bdb_lex.specs.TokenGrammar.{IsGap, IsLastGap, IsTokens}
 use Rattle.bdb_lex.specs.declared.token.Token.TheVariants.{Word}

@@ -1,7 +1,7 @@
 -- What a piece of a stream of sessions is: behind blanks and comments a session's number, blanks, and the line.
 use Rattle.std.specs.Prelude.{ℕ, ◌+◌, ◌-◌, ◌*◌, ◌&&◌, cond, nat_lt, Option, Some, None, List, [], ◌∷◌, codes}
 use Rattle.std.specs.Char.{is_ascii_digit}
-use Rattle.bdb_lex.specs.Bytes.{is_blank}
+use Rattle.bdb_base.specs.Letters.{is_blank}
 use Rattle.bdb_lex.specs.Reading.{begins, behind_gaps}
 use Rattle.bdb_lex.specs.Tokens.{tokens_of}
 use Rattle.bdb_lex.specs.declared.token.Piece.{Piece}

@@ -6,9 +6,9 @@ ghost use Rattle.bdb_queries.specs.Slots.{known, known_operand, must_hold};
 
 use crate::shared::Shared;
 use bdb_base::{Cond, Operand, Ref, Tuple, Value, cmp_value, compares};
-use bdb_queries::{Slot, known};
+use bdb_queries::{Chosen, known};
 
-impl Slot for Shared {
+impl Chosen for Shared {
     ghost chosen = { λ slots. slots };
 
     fn slot_at(slots: &[Option<Shared>], at: usize) -> Option<&Tuple> {

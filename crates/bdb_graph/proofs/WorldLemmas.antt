@@ -13,6 +13,7 @@ use Rattle.bdb_base.specs.Same.{same_path}
 use Rattle.bdb_base.specs.SameLemmas.{same_path-Decides}
 use Rattle.bdb_base.specs.SortedSet.{ascending}
 use Rattle.bdb_base.proofs.OptionLemmas.{same_some}
+use Rattle.bdb_base.specs.Causes.{is_listed}
 use Rattle.bdb_keep.specs.Tables.{Tables}
 use Rattle.bdb_key.specs.Bytes.{num_bytes}
 use Rattle.bdb_key.specs.Grammar.{IsNum}
@@ -21,7 +22,7 @@ use Rattle.bdb_tables.specs.Codec.{place}
 use Rattle.bdb_tables.specs.InUse.{depth_codec, edge_codec}
 use Rattle.bdb_tables.specs.InUseLaws.{numbers_in_order, number_rows_are_one}
 use Rattle.bdb_tables.specs.States.{HoldsStates}
-use Rattle.bdb_tables.specs.Names.{Names, AreNames, is_listed, are_once, depth_of, most_numbered}
+use Rattle.bdb_tables.specs.Names.{Names, AreNames, are_once, depth_of, most_numbered}
 use Rattle.bdb_tables.specs.Spans.{AreUnder}
 use Rattle.bdb_tables.specs.Writes.{Gives}
 use Rattle.bdb_names.proofs.Ends.{length_more, one_more}

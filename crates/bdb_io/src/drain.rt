@@ -6,9 +6,8 @@ ghost use Rattle.bdb_io.specs.Pieces.{WritesPiece};
 ghost use Rattle.bdb_io.specs.Streams.{takes_all, drained, drained_in_part};
 
 use crate::failed::Failed;
-use crate::feed::lists;
 use crate::traits::Sink;
-use bdb_base::List;
+use bdb_base::{List, is_listed};
 use std::alloc::{AllocError, Global};
 use std::marker::Model;
 
@@ -96,7 +95,7 @@ impl Sink for MemSink {
         ensures err { OnErr result (self.new ≡ drained_in_part self.old bytes.now) }
     {
         self.calls = self.calls.saturating_add(1);
-        if lists(self.fails.as_slice(), self.calls) || bytes.len() > self.room {
+        if is_listed(self.fails.as_slice(), self.calls) || bytes.len() > self.room {
             let count = self.part.min(bytes.len().min(self.room));
             fill(&mut self.bytes, &bytes[..count]);
             self.room -= count;

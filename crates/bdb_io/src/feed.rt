@@ -9,7 +9,7 @@ ghost use Rattle.bdb_io.specs.Streams.{fed, unfed};
 
 use crate::failed::Failed;
 use crate::traits::Source;
-use bdb_base::List;
+use bdb_base::{List, is_listed};
 use std::marker::Model;
 
 /// A source of given bytes that gives a few at a time, and fails the reads whose numbers, from 1, are listed.
@@ -87,7 +87,7 @@ impl Source for MemSource {
         ensures err { OnErr result (self.new ≡ unfed self.old) }
     {
         self.calls = self.calls.saturating_add(1);
-        if lists(self.fails.as_slice(), self.calls) {
+        if is_listed(self.fails.as_slice(), self.calls) {
             self.faults = self.faults.saturating_add(1);
             return Err(Failed);
         }
@@ -98,11 +98,4 @@ impl Source for MemSource {
         self.from = end;
         Ok(count)
     }
-}
-
-/// Whether the number of a call is listed.
-pub fn lists(fails: &[u32], call: u64) -> bool
-    ensures { result ≡ is_listed call fails.now }
-{
-    fails.iter().any(|x| u64::from(*x) == call)
 }

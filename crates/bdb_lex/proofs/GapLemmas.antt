@@ -1,7 +1,7 @@
 -- Blanks and comments at the front of bytes: what is left behind them, and its tokens.
 use Rattle.std.proofs.Common.{◌≡◌, ◌∙◌, ◌⊎◌, ℕ, Bool, true, false, not, ◌&&◌, nat_eq, cond, List, [], ◌∷◌, refl, ap, sym, inl, inr}
 use Rattle.std.proofs.lemmas.Bool.{cases_Bool, or_cases, or_left, and_parts, cond-true, cond-false, eqb-true, false≢true}
-use Rattle.bdb_lex.specs.Bytes.{is_blank}
+use Rattle.bdb_base.specs.Letters.{is_blank}
 use Rattle.bdb_lex.specs.Reading.{begins, begins_gap, behind, behind_gaps}
 use Rattle.bdb_lex.specs.Tokens.{tokens_of, tokens_from}
 use Rattle.bdb_lex.specs.Tokens.Reading.{between, in_comment}

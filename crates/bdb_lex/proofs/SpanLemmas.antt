@@ -7,11 +7,11 @@ use Rattle.std.proofs.lemmas.Grind.{flat_map-append}
 use Rattle.std.specs.List.{list_any}
 use Rattle.bdb_base.proofs.ListLemmas.{or_false}
 use Rattle.bdb_base.proofs.BoolLemmas.{and_true, or_true, or_assoc}
+use Rattle.bdb_base.specs.Letters.{is_blank}
 use Rattle.bdb_lex.specs.declared.mode.Mode.{Mode}
 use Rattle.bdb_lex.specs.declared.mode.Mode.TheVariants.{Plain, Dash, Quoted, Comment}
 use Rattle.bdb_lex.specs.declared.token.Piece.{Piece}
 use Rattle.bdb_lex.specs.declared.token.Piece.TheVariants.{Cmd}
-use Rattle.bdb_lex.specs.Bytes.{is_blank}
 use Rattle.bdb_lex.specs.Cut.{CutState, start, longer, grown, is_end, ended, next_mode, next_state, outside_mode, pieces_from, pieces_of, state_after, has_rest, holds_something}
 use Rattle.bdb_lex.specs.Runs.{state_of, longer_by}
 use Rattle.bdb_lex.specs.Spans.{Span, spelled, bytes_of, lacks, begins_dash, may_stand, all_stand, piece_of, pieces_between, is_end_span, after_last_end, is_something, EachScriptIsSpans, SpansAreOneList, PiecesAreOfSpans, RestIsOfSpans}

@@ -6,9 +6,9 @@ use Rattle.std.proofs.lemmas.List.{append-nil}
 use Rattle.std.specs.List.{list_all}
 use Rattle.std.specs.Char.{is_ascii_digit}
 use Rattle.bdb_base.proofs.ListLemmas.{list_all_push}
+use Rattle.bdb_base.specs.Letters.{is_blank, is_letter, is_word_byte}
 use Rattle.bdb_lex.specs.declared.token.Token.{Token}
 use Rattle.bdb_lex.specs.declared.token.Token.TheVariants.{Word, Text, Num, Comma, Dot, ParenL, ParenR, Eq, Ne, Lt, Le, Gt, Ge}
-use Rattle.bdb_lex.specs.Bytes.{is_blank, is_letter, is_word_byte}
 use Rattle.bdb_lex.specs.Reading.{is_digits, is_num, is_word}
 use Rattle.bdb_lex.specs.Spans.{Span, spelled, bytes_of, lacks, may_stand, all_stand}
 use Rattle.bdb_lex.specs.Spans.Span.{end, text, comment, byte, open_text, open_comment}

@@ -9,9 +9,9 @@ use Rattle.std.specs.List.{list_all}
 use Rattle.std.specs.Result.{IsErrOf}
 use Rattle.std.specs.Char.{is_ascii_digit}
 use Rattle.bdb_base.specs.Bases.{is_clean}
+use Rattle.bdb_base.specs.Letters.{is_blank, is_letter, is_word_byte}
 use Rattle.bdb_lex.specs.declared.token.Token.{Token}
 use Rattle.bdb_lex.specs.declared.token.Token.TheVariants.{Word, Text, Num, Ne}
-use Rattle.bdb_lex.specs.Bytes.{is_blank, is_letter, is_word_byte}
 use Rattle.bdb_lex.specs.Tokens.{started, extended, finished, joined, tokens_from, tokens_of}
 use Rattle.bdb_lex.specs.Tokens.Reading.{between, whole, in_text, after_dash, after_bang, failed}
 use Rattle.bdb_lex.specs.Reading.{begins, is_digits, is_num, is_word, begins_gap, is_no_quote, begins_num, IsSingle, Reads, ReadsOn, IsParted}

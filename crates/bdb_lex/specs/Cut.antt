@@ -1,7 +1,7 @@
 -- Cutting a script into pieces, one step for each byte.
 use Rattle.std.specs.Prelude.{◌≡◌, ℕ, Bool, true, false, not, ◌&&◌, ◌||◌, cond, nat_eq, nat_lt, nat_le, List, [], ◌∷◌, ◌++◌, length}
 use Rattle.bdb_base.specs.Limits.{longest_command}
-use Rattle.bdb_lex.specs.Bytes.{is_blank}
+use Rattle.bdb_base.specs.Letters.{is_blank}
 use Rattle.bdb_lex.specs.declared.mode.Mode.{Mode}
 use Rattle.bdb_lex.specs.declared.mode.Mode.TheVariants.{Plain, Dash, Quoted, Comment}
 use Rattle.bdb_lex.specs.declared.token.Piece.{Piece}

@@ -1,5 +1,4 @@
 -- what the headline is made of, in the order of docs/BELIEVE.md
-pub mod Bytes
 pub mod Cut
 pub mod Tokens
 pub mod Reading

@@ -2,7 +2,7 @@
 use Rattle.std.specs.Prelude.{◌≡◌, ℕ, ◌<◌, ◌≤◌, Bool, true, false, not, ◌&&◌, ◌||◌, cond, nat_eq, Some, None, List, [], ◌∷◌, ◌++◌, length}
 use Rattle.std.specs.List.{list_all}
 use Rattle.std.specs.Char.{is_ascii_digit}
-use Rattle.bdb_lex.specs.Bytes.{is_blank, is_letter, is_word_byte}
+use Rattle.bdb_base.specs.Letters.{is_blank, is_letter, is_word_byte}
 use Rattle.bdb_lex.specs.declared.token.Token.{Token}
 use Rattle.bdb_lex.specs.Tokens.{Reading, extended, finished, tokens_from, tokens_of, joined}
 use Rattle.bdb_lex.specs.Tokens.Reading.{whole}

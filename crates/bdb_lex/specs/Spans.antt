@@ -2,9 +2,9 @@
 use Rattle.std.specs.Prelude.{◌≡◌, ℕ, Bool, true, false, not, ◌&&◌, cond, nat_eq, nat_le, List, [], ◌∷◌, ◌++◌, length}
 use Rattle.std.specs.List.{list_all, list_any, flat_map}
 use Rattle.bdb_base.specs.Limits.{longest_command}
+use Rattle.bdb_base.specs.Letters.{is_blank}
 use Rattle.bdb_lex.specs.declared.token.Piece.{Piece}
 use Rattle.bdb_lex.specs.declared.token.Piece.TheVariants.{Cmd, Long}
-use Rattle.bdb_lex.specs.Bytes.{is_blank}
 use Rattle.bdb_lex.specs.Cut.{pieces_of, has_rest}
 use Rattle.bdb_lex.specs.Reading.{begins}
 

@@ -2,9 +2,9 @@
 use Rattle.std.specs.Prelude.{◌≡◌, ◌↔◌, ◌⊎◌, ℕ, Bool, true, false, cond, nat_eq, nat_le, ◌&&◌, Some, List, [], ◌∷◌, ◌++◌, length}
 use Rattle.std.specs.List.{list_all}
 use Rattle.bdb_base.specs.Limits.{longest_word}
+use Rattle.bdb_base.specs.Letters.{is_blank}
 use Rattle.bdb_lex.specs.declared.token.Token.{Token}
 use Rattle.bdb_lex.specs.declared.token.Token.TheVariants.{Word, Text, Num, Comma, Dot, ParenL, ParenR, Eq, Ne, Lt, Le, Gt, Ge}
-use Rattle.bdb_lex.specs.Bytes.{is_blank}
 use Rattle.bdb_lex.specs.Reading.{is_word, is_num}
 use Rattle.bdb_lex.specs.Spans.{Span, AreSpans}
 use Rattle.bdb_lex.specs.Spans.Span.{comment, byte, open_comment}

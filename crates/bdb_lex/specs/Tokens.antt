@@ -3,7 +3,7 @@ use Rattle.std.specs.Prelude.{ℕ, Bool, true, cond, nat_eq, nat_le, Option, Som
 use Rattle.std.specs.Char.{is_ascii_digit}
 use Rattle.bdb_base.specs.Limits.{longest_word}
 use Rattle.bdb_base.specs.Bases.{is_clean}
-use Rattle.bdb_lex.specs.Bytes.{is_blank, is_letter, is_word_byte}
+use Rattle.bdb_base.specs.Letters.{is_blank, is_letter, is_word_byte}
 use Rattle.bdb_lex.specs.declared.token.Token.{Token}
 use Rattle.bdb_lex.specs.declared.token.Token.TheVariants.{Word, Text, Num, Comma, Dot, ParenL, ParenR, Eq, Ne, Lt, Le, Gt, Ge}
 

@@ -1,7 +1,7 @@
 // The kinds of bytes.
 ghost use Rattle.std.specs.Prelude.{◌≡◌, false, nat_eq, ◌∷◌, IfSome, IfNone};
 ghost use Rattle.std.specs.Char.{is_ascii_digit};
-ghost use Rattle.bdb_lex.specs.Bytes.{is_blank, is_letter, is_word_byte};
+ghost use Rattle.bdb_base.specs.Letters.{is_blank, is_letter, is_word_byte};
 ghost use Rattle.bdb_lex.specs.Reading.{begins};
 
 /// Whether a byte is a space, a tab, a line feed or a carriage return.

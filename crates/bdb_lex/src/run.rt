@@ -1,7 +1,7 @@
 // Runs of bytes in which no piece ends.
 ghost use Rattle.std.specs.Prelude.{◌≡◌, ◌≤◌, ◌<◌, ◌+◌, Bool, true, false, IfSome, length, take, drop, slice_get};
 ghost use Rattle.std.specs.List.{list_all, list_any};
-ghost use Rattle.bdb_lex.specs.Bytes.{is_blank};
+ghost use Rattle.bdb_base.specs.Letters.{is_blank};
 ghost use Rattle.bdb_lex.specs.Cut.{is_end, shows, next_mode, outside_mode};
 ghost use Rattle.bdb_lex.specs.Runs.{IsAtEnd, Runs, is_quiet};
 

@@ -3,7 +3,7 @@ ghost use Rattle.std.specs.Prelude.{◌≡◌, ◌≤◌, ◌<◌, ◌||◌, tru
 ghost use Rattle.std.specs.List.{list_all};
 ghost use Rattle.std.specs.Char.{is_ascii_digit};
 ghost use Rattle.std.specs.Str.{is_utf8};
-ghost use Rattle.bdb_lex.specs.Bytes.{is_letter, is_word_byte};
+ghost use Rattle.bdb_base.specs.Letters.{is_letter, is_word_byte};
 ghost use Rattle.bdb_lex.specs.Tokens.{tokens_of};
 ghost use Rattle.bdb_lex.specs.Reading.{begins, begins_gap, begins_num, is_num, Reads};
 

@@ -9,7 +9,7 @@ ghost use Rattle.bdb_keep.specs.Tables.{IsLeastFrom, LieInTables, NoneFrom};
 ghost use Rattle.bdb_memory.specs.Struck.{Counted};
 
 use crate::ledger::Ledger;
-use bdb_base::List;
+use bdb_base::{List, is_listed};
 use bdb_keep::{KeepError, Keeper, KeyEnd, Span};
 use std::alloc::{AllocError, Global};
 use std::marker::Model;
@@ -98,15 +98,8 @@ impl MemKeeper {
         ensures listed { result ≡ is_listed (number_of_next self.old.calls) self.old.fails }
     {
         self.calls = self.calls.saturating_add(1);
-        lists(self.fails.as_slice(), self.calls)
+        is_listed(self.fails.as_slice(), self.calls)
     }
-}
-
-/// Whether the number of a call is listed.
-fn lists(fails: &[u32], call: u64) -> bool
-    ensures { result ≡ is_listed call fails.now }
-{
-    fails.iter().any(|x| u64::from(*x) == call)
 }
 
 impl Keeper for MemKeeper {

@@ -10,12 +10,12 @@ use std::marker::Model;
 
 /// The key of a tuple, with the number of its relation.
 #[derive(Drop)]
-pub struct Key {
+pub struct TupleKey {
     rel: u32,
     vals: List<Value>,
 }
 
-impl Model for Key {
+impl Model for TupleKey {
     ghost use Rattle.bdb_base.specs.TupleFields.{Fields};
 
     ghost Value = { Fields };
@@ -23,17 +23,17 @@ impl Model for Key {
     ghost view = { λ k. record { rel = k.rel; vals = k.vals } };
 }
 
-impl Exact for Key {
+impl Exact for TupleKey {
     fn try_clone(&self, alloc: Global) -> Result<Self, AllocError> {
         let vals = self.vals.try_clone(alloc)?;
-        Ok(Key {
+        Ok(TupleKey {
             rel: self.rel,
             vals,
         })
     }
 }
 
-impl Ordered for Key {
+impl Ordered for TupleKey {
     ghost use Rattle.bdb_base.specs.Order.{tuple_cmp};
     ghost use Rattle.bdb_base.specs.OrderLemmas.{tuple_exact};
 
@@ -57,12 +57,12 @@ pub fn key_length_of(rels: &[RelDef], t: &Tuple) -> u32
 }
 
 /// A tuple's key, where these are the relations.
-pub fn key_tuple(alloc: Global, rels: &[RelDef], t: &Tuple) -> Result<Key, AllocError>
+pub fn key_tuple(alloc: Global, rels: &[RelDef], t: &Tuple) -> Result<TupleKey, AllocError>
     ensures { IfOk result (λ key. key ≡ key_tuple (key_lengths rels.now) t.now) }
 {
     let mut vals = List::new(alloc);
     push_copies(alloc, &mut vals, key_of(t, key_length_of(rels, t)))?;
-    Ok(Key { rel: t.rel, vals })
+    Ok(TupleKey { rel: t.rel, vals })
 }
 
 fn push_copies(alloc: Global, vals: &mut List<Value>, more: &[Value]) -> Result<(), AllocError>

@@ -6,7 +6,7 @@ ghost use Rattle.bdb_base.specs.SortedSet.{ascending};
 ghost use Rattle.bdb_model.specs.Levels.{no_level, with_stated, with_all, level_of, level_if_any, levels_of, has_stated, refuses, stated_by};
 
 use crate::ends::at_path;
-use crate::keys::{Key, key_tuple};
+use crate::keys::{TupleKey, key_tuple};
 use bdb_base::{List, RelDef, Sign, Stmt, Tuple, contains, put, put_copy};
 use std::alloc::{AllocError, Global};
 use std::marker::Model;
@@ -16,7 +16,7 @@ use std::marker::Model;
 pub struct Level {
     plus: List<Tuple>,
     minus: List<Tuple>,
-    keys: List<Key>,
+    keys: List<TupleKey>,
 }
 
 impl Model for Level {
@@ -70,7 +70,7 @@ impl Level {
     }
 
     /// Whether a signed tuple that is not stated here clashes with one that is.
-    fn refuses(&self, t: &Tuple, key: &Key, s: Sign) -> bool
+    fn refuses(&self, t: &Tuple, key: &TupleKey, s: Sign) -> bool
         ensures { result ≡ refuses self.now t.now key.now s }
     {
         match s {
@@ -147,7 +147,7 @@ fn push_if_any(
 }
 
 /// Whether the world of the levels' path has a signed tuple.
-pub fn stated_by(levels: &[Level], t: &Tuple, key: &Key, s: Sign) -> bool
+pub fn stated_by(levels: &[Level], t: &Tuple, key: &TupleKey, s: Sign) -> bool
     ensures { result ≡ stated_by levels.now t.now key.now s }
 {
     match levels {

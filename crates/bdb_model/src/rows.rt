@@ -7,7 +7,7 @@ ghost use Rattle.bdb_base.specs.WorldRows.{world_of};
 ghost use Rattle.bdb_model.specs.Levels.{row_by, rows_by};
 
 use crate::ends::at_ends;
-use crate::keys::{Key, key_tuple};
+use crate::keys::{TupleKey, key_tuple};
 use crate::levels::{Level, level_of, levels_of, stated_by};
 use bdb_base::{Exact, Held, List, RelDef, Sign, Stmt, Tuple, World, tuples_of};
 use std::alloc::{AllocError, Global};
@@ -73,7 +73,7 @@ fn push_row(
     levels: &[Level],
     own: &Level,
     tuple: &Tuple,
-    key: &Key,
+    key: &TupleKey,
     sign: Sign,
 ) -> Result<(), AllocError>
     ensures { OnOk result

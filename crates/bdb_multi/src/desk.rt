@@ -4,8 +4,8 @@ ghost use Rattle.bdb_multi.specs.declared.kinds.Event.{Event};
 ghost use Rattle.bdb_multi.specs.Sessions.{sessions, act_after};
 ghost use Rattle.bdb_multi.specs.Slots.{AreSlotsOf, slot_act, slot_after, with_command};
 
-use crate::kinds::{Act, Line, Lines};
-use bdb_base::List;
+use crate::kinds::{Act, Line};
+use bdb_base::{Lines, List};
 use std::alloc::{AllocError, Global};
 use std::marker::Model;
 

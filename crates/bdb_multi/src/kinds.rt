@@ -1,9 +1,6 @@
 // Lines, events and acts.
-use bdb_base::{Exact, List};
+use bdb_base::{Exact, Lines, List};
 use std::alloc::{AllocError, Global};
-
-/// Commands, in order.
-pub type Lines = List<List<u8>>;
 
 /// Lines of sessions, in order.
 pub type Events = List<Event>;

@@ -9,5 +9,5 @@ mod laws;
 
 pub use acts::acts_of;
 pub use desk::{Desk, MOST_QUEUED, SESSIONS};
-pub use kinds::{Act, Acts, Event, Events, Line, Lines};
+pub use kinds::{Act, Acts, Event, Events, Line};
 pub use laws::{batches_are_one, batches_are_run, limits_agree, own_lines_decide};

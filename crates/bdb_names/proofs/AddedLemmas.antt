@@ -3,11 +3,12 @@ use Rattle.std.proofs.Common.{◌≡◌, ◌∙◌, ℕ, ◌<◌, ◌^◌, Bool,
 use Rattle.std.specs.List.{AllByRecursion}
 use Rattle.std.proofs.lemmas.Bool.{cases_Bool, and_parts, and_left, and_right, or_parts, or_left, or_right, false≢true, false_from_ne_true, cond-true, cond-false, not-true, eqb-true, eq-eqb}
 use Rattle.bdb_base.specs.OrderLemmas.{is_eq_nat_cmp}
+use Rattle.bdb_base.specs.Causes.{is_listed}
 use Rattle.bdb_keep.specs.Tables.{Tables}
 use Rattle.bdb_key.specs.Grammar.{IsNum}
 use Rattle.bdb_tables.specs.InUse.{depth_codec, link_codec, linked_codec, edge_codec, led_codec}
 use Rattle.bdb_tables.specs.InUseLaws.{numbers_in_order}
-use Rattle.bdb_tables.specs.Names.{Names, path_of, is_named, is_listed, are_once, with_name, depth_of, link_of, edge_of}
+use Rattle.bdb_tables.specs.Names.{Names, path_of, is_named, are_once, with_name, depth_of, link_of, edge_of}
 use Rattle.bdb_tables.specs.States.{TablesAre, HoldsStates}
 use Rattle.bdb_tables.specs.Writes.{with_change, with_row_at}
 use Rattle.bdb_tables.proofs.WriteLemmas.{change_gives, change_elsewhere, gives_same}

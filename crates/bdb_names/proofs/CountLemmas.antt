@@ -1,7 +1,8 @@
 -- Where as many numbers as are listed are all below their count, the numbers below the count are listed.
 use Rattle.std.proofs.Common.{◌≡◌, ◌∙◌, ℕ, ◌≤◌, ◌<◌, Bool, true, false, not, nat_eq, List, [], ◌∷◌, refl, ap, sym, inl, inr, suc, zero, arith, length, filter}
 use Rattle.std.proofs.lemmas.Bool.{cases_Bool, and_parts, and_from, or_cases, or_left, or_right, false≢true, false_from_ne_true, true_from_ne_false, cond-true, cond-false, not-true, eqb-true, eq-eqb, ne_eqb, eqb-false}
-use Rattle.bdb_tables.specs.Names.{is_listed, are_once}
+use Rattle.bdb_base.specs.Causes.{is_listed}
+use Rattle.bdb_tables.specs.Names.{are_once}
 use Rattle.bdb_names.proofs.LessLemmas.{listed-filter, once-filter}
 
 -- all numbers of a list are below another

@@ -11,9 +11,10 @@ use Rattle.bdb_base.specs.Segments.{is_suffix}
 use Rattle.bdb_base.specs.States.{deepest_suffix}
 use Rattle.bdb_base.proofs.ListLemmas.{length-filter_le}
 use Rattle.bdb_base.proofs.OptionLemmas.{none_is_some, same_some}
+use Rattle.bdb_base.specs.Causes.{is_listed}
 use Rattle.bdb_paths.specs.PathLaws.{without_path}
 use Rattle.bdb_paths.proofs.SuffixLemmas.{deepest_same, length-deepest, suffixes_lose}
-use Rattle.bdb_tables.specs.Names.{Names, AreNames, path_of, number_of, is_named, is_listed, are_once, leads_to, without_name, depth_of, link_of, edge_of}
+use Rattle.bdb_tables.specs.Names.{Names, AreNames, path_of, number_of, is_named, are_once, leads_to, without_name, depth_of, link_of, edge_of}
 use Rattle.bdb_names.specs.Drops.{IsLast, led_past}
 use Rattle.bdb_names.proofs.NameLemmas.{same_number, deep_number, link_at, link_at_root, link_at_none, link_found, IsLinked, edge_at, edge_at_none}
 

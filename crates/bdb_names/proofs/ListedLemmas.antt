@@ -2,7 +2,8 @@
 use Rattle.std.proofs.Common.{◌≡◌, ◌∙◌, ℕ, ◌≤◌, Bool, true, false, not, ◌||◌, nat_eq, List, [], ◌∷◌, ◌++◌, refl, ap, sym, suc, zero, arith, length, take, slice_get, Some}
 use Rattle.std.proofs.lemmas.Bool.{and_parts, and_from, or_left, or_right, or_parts, or_from, false≢true, false_from_ne_true, not-true, eqb-true, eq-eqb, ne_eqb, eqb-false}
 use Rattle.bdb_base.proofs.ListLemmas.{or_false}
-use Rattle.bdb_tables.specs.Names.{is_listed, are_once}
+use Rattle.bdb_base.specs.Causes.{is_listed}
+use Rattle.bdb_tables.specs.Names.{are_once}
 
 pub take_snoc : (ss : List ℕ) (k at v : ℕ) → slice_get ss at ≡ Some v → take at (ss ++ k ∷ []) ≡ take at ss
 take_snoc [] k at v e = absurd cc

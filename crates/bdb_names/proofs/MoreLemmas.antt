@@ -11,9 +11,10 @@ use Rattle.bdb_base.specs.States.{deepest_suffix, edge_target}
 use Rattle.bdb_base.proofs.ListLemmas.{or_false, list_all_push}
 use Rattle.bdb_base.proofs.OptionLemmas.{none_is_some, same_some}
 use Rattle.bdb_base.proofs.SegmentLemmas.{length-suffix}
+use Rattle.bdb_base.specs.Causes.{is_listed}
 use Rattle.bdb_paths.specs.PathLaws.{with_path}
 use Rattle.bdb_paths.proofs.SuffixLemmas.{deepest_same, deepest_past, deepest_is_suffix, suffixes_gain, suffixes_extend}
-use Rattle.bdb_tables.specs.Names.{Names, AreNames, path_of, number_of, is_named, is_listed, are_once, with_name, depth_of, link_of, edge_of}
+use Rattle.bdb_tables.specs.Names.{Names, AreNames, path_of, number_of, is_named, are_once, with_name, depth_of, link_of, edge_of}
 use Rattle.bdb_names.specs.Moves.{IsLeaf, gains, edge_gains, link_gains, at_path, edge_moves, link_moves}
 use Rattle.bdb_names.proofs.Ends.{more_is_end, own_end, ends_otherwise}
 use Rattle.bdb_names.proofs.NameLemmas.{is_named_by, root_is_named, deep_is_named, named_otherwise, depth_at, link_at, link_at_root, link_at_none, edge_at, edge_at_none}

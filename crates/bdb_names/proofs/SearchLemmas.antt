@@ -3,7 +3,8 @@ use Rattle.std.proofs.Common.{◌≡◌, ◌∙◌, ℕ, ◌≤◌, ◌<◌, Boo
 use Rattle.std.proofs.lemmas.Bool.{cases_Bool, or_left, or_right, or_cases, false≢true, false_from_ne_true, cond-true, cond-false, eqb-true, eq-eqb, eqb-false, cases_lt}
 use Rattle.bdb_base.proofs.BoolLemmas.{same_tests}
 use Rattle.bdb_base.proofs.OptionLemmas.{same_some}
-use Rattle.bdb_tables.specs.Names.{Names, path_of, is_listed, are_once, link_of, edge_of}
+use Rattle.bdb_base.specs.Causes.{is_listed}
+use Rattle.bdb_tables.specs.Names.{Names, path_of, are_once, link_of, edge_of}
 use Rattle.bdb_names.specs.Moves.{IsLeaf, AreMovers, edge_moves, link_moves}
 use Rattle.bdb_names.specs.Search.{sources_after, met_after}
 use Rattle.bdb_names.proofs.ListedLemmas.{take_snoc, get_snoc, listed_get, listed_take, once_at, listed_snoc, once_snoc, take_whole}

@@ -3,7 +3,8 @@ use Rattle.std.specs.Prelude.{◌≡◌, ℕ, Bool, true, false, not, ◌&&◌, 
 use Rattle.bdb_base.specs.Alternation.{alternates}
 use Rattle.bdb_base.specs.Segments.{is_suffix}
 use Rattle.bdb_base.specs.States.{deepest_suffix}
-use Rattle.bdb_tables.specs.Names.{Names, AreNames, path_of, number_of, is_named, is_listed, are_once}
+use Rattle.bdb_base.specs.Causes.{is_listed}
+use Rattle.bdb_tables.specs.Names.{Names, AreNames, path_of, number_of, is_named, are_once}
 
 -- a path ends in one that joins a set, and its deepest end in the set was shorter
 abbrev pub gains : (List ℕ → Bool) → List ℕ → List ℕ → Bool

@@ -1,8 +1,8 @@
 -- Changes of links and edges, each with its turned rows.
 use Rattle.std.specs.Prelude.{ℕ, Bool, ◌&&◌, nat_eq, List, [], ◌∷◌, Option, None, Some, cond}
+use Rattle.bdb_base.specs.Causes.{is_listed}
 use Rattle.bdb_keep.specs.Tables.{Tables}
 use Rattle.bdb_tables.specs.InUse.{depth_codec, link_codec, linked_codec, edge_codec, led_codec}
-use Rattle.bdb_tables.specs.Names.{is_listed}
 use Rattle.bdb_tables.specs.Writes.{with_change}
 
 -- ---- links

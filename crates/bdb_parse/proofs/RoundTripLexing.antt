@@ -6,7 +6,7 @@ use Rattle.std.proofs.lemmas.Bool.Decides.{nat_tests}
 use Rattle.std.proofs.lemmas.List.{append-nil}
 use Rattle.bdb_lex.specs.declared.token.Token.{Token}
 use Rattle.bdb_lex.specs.declared.token.Token.TheVariants.{Word, Text, Num}
-use Rattle.bdb_lex.specs.Bytes.{is_word_byte}
+use Rattle.bdb_base.specs.Letters.{is_word_byte}
 use Rattle.bdb_lex.specs.Tokens.{Reading, started, extended, continued, next_reading, ended_tokens, joined, tokens_from, tokens_of, is_allowed}
 use Rattle.bdb_lex.specs.Tokens.Reading.{between, whole}
 use Rattle.bdb_lex.proofs.TokenLemmas.{joined_nothing, joined_done}

@@ -15,24 +15,17 @@ use Rattle.bdb_base.specs.declared.kinds.Value.{Value}
 use Rattle.bdb_base.specs.declared.kinds.Value.TheVariants as value
 use Rattle.bdb_base.specs.Texts.{quoted, quoted_byte, int_text, cmp_text, value_text}
 use Rattle.bdb_base.specs.Bases.{is_clean}
+use Rattle.bdb_base.specs.Letters.{is_letter, is_word_byte}
 use Rattle.bdb_lex.specs.declared.token.Token.TheVariants.{Word, Text, Num, Eq, Ne, Lt, Le, Gt, Ge}
-use Rattle.bdb_lex.specs.Bytes.{is_word_byte}
 use Rattle.bdb_lex.specs.Tokens.{extended, tokens_from}
 use Rattle.bdb_lex.specs.Tokens.Reading.{whole, in_text, after_dash}
 use Rattle.bdb_lex.proofs.TokenLemmas.{joined_nothing, started_letter, started_digit, digit_no_dash}
-use Rattle.bdb_syntax.specs.Printable.{is_word, is_in_word, begins_word, IsContent, IsPrintableValue}
+use Rattle.bdb_syntax.specs.Printable.{is_short_word, IsContent, IsPrintableValue}
 use Rattle.bdb_parse.specs.Numbers.{is_i64}
 use Rattle.bdb_parse.specs.Fits.{value_fits}
 use Rattle.bdb_parse.proofs.PrintedTokens.{cmp_token, value_tokens}
 use Rattle.bdb_parse.proofs.RoundTripLexing.{is_edge_byte, is_edge, StopsAt, stops, word_stops, num_stops, text_stops, Reads, ends_mark, reads_mark, reads_from_ends}
 use Rattle.bdb_parse.proofs.NumberLemmas.{digits_own}
-
-in_word_goes : (b : ℕ) → is_in_word b ≡ true → is_word_byte b ≡ true
-in_word_goes b h = grind (arith, nat_tests)
-
-all_go : (a : List ℕ) → list_all is_in_word a ≡ true → list_all is_word_byte a ≡ true
-all_go [] h = refl
-all_go (b ∷ a) h = let p = and_parts (is_in_word b) (list_all is_in_word a) h in and_from (is_word_byte b) (list_all is_word_byte a) (in_word_goes b p.0) (all_go a p.1)
 
 word_run : (w a rest : List ℕ) → list_all is_word_byte a ≡ true → tokens_from (whole (Word w)) (a ++ rest) ≡ tokens_from (whole (Word (w ++ a))) rest
 word_run w [] rest h = ap (λ v. tokens_from (whole (Word v)) rest) (sym (append-nil w))
@@ -41,14 +34,14 @@ word_run w (b ∷ a) rest h =
     let e : extended (Word w) b ≡ Some (whole (Word (w ++ b ∷ []))) = cond-true (is_word_byte b) _ _ p.0 in
     rw e (joined_nothing _ ∙ (word_run (w ++ b ∷ []) a rest p.1 ∙ ap (λ v. tokens_from (whole (Word v)) rest) (append_assoc w (b ∷ []) a)))
 
-pub word_reads : (w : List ℕ) → is_word w ≡ true → Reads w (Word w ∷ [])
+pub word_reads : (w : List ℕ) → is_short_word w ≡ true → Reads w (Word w ∷ [])
 word_reads [] h = absurd (false≢true h)
 word_reads (b ∷ w) h =
-    let p = and_parts (begins_word b) (list_all is_in_word w && nat_le (length (b ∷ w)) 255) h in
-    let q = and_parts (list_all is_in_word w) (nat_le (length (b ∷ w)) 255) p.1 in
+    let p = and_parts (is_letter b) (list_all is_word_byte w && nat_le (length (b ∷ w)) 255) h in
+    let q = and_parts (list_all is_word_byte w) (nat_le (length (b ∷ w)) 255) p.1 in
     record {
       reads = λ rest e. joined_nothing _ ∙ (ap (λ r. tokens_from r (w ++ rest)) (started_letter b p.0)
-          ∙ (word_run (b ∷ []) w rest (all_go w q.0) ∙ stops (Word (b ∷ w)) rest (word_stops (b ∷ w) rest e) q.1));
+          ∙ (word_run (b ∷ []) w rest q.0 ∙ stops (Word (b ∷ w)) rest (word_stops (b ∷ w) rest e) q.1));
     }
 
 text_run : (c t rest : List ℕ) → tokens_from (in_text c) (flat_map quoted_byte t ++ 39 ∷ rest) ≡ tokens_from (whole (Text (c ++ t))) rest

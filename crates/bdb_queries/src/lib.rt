@@ -8,6 +8,6 @@ mod slots;
 
 pub use found::Found;
 pub use slots::{
-    Slot, known, known_operand, known_row, must_all_hold, must_hold, path_of, uid_of, user_tuple,
+    Chosen, known, known_operand, known_row, must_all_hold, must_hold, path_of, uid_of, user_tuple,
     user_tuples, with_chosen,
 };

@@ -11,7 +11,7 @@ use bdb_base::{
 use std::alloc::{AllocError, Global};
 
 /// What stands in a slot: a tuple, by itself or shared.
-pub trait Slot {
+pub trait Chosen {
     ghost use Rattle.std.specs.Prelude.{◌≡◌, List, Option};
     ghost use Rattle.std.specs.Option.{option_copied};
     ghost use Rattle.bdb_base.specs.declared.tuple.Tuple.{Tuple};
@@ -25,7 +25,7 @@ pub trait Slot {
         ensures { option_copied result ≡ slot_at (chosen slots.now) at };
 }
 
-impl Slot for Tuple {
+impl Chosen for Tuple {
     ghost chosen = { λ slots. slots };
 
     fn slot_at(slots: &[Option<Tuple>], at: usize) -> Option<&Tuple> {
@@ -38,7 +38,7 @@ impl Slot for Tuple {
 }
 
 /// The value of a column, where its item is chosen.
-pub fn known<S: Slot>(slots: &[Option<S>], r: Ref) -> Option<&Value>
+pub fn known<S: Chosen>(slots: &[Option<S>], r: Ref) -> Option<&Value>
     ensures { option_copied result ≡ known (S.chosen slots.now) r }
 {
     match S::slot_at(slots, r.item as usize) {
@@ -48,7 +48,10 @@ pub fn known<S: Slot>(slots: &[Option<S>], r: Ref) -> Option<&Value>
 }
 
 /// The value of a comparison's right side, where it is known.
-pub fn known_operand<'a, S: Slot>(slots: &'a [Option<S>], operand: &'a Operand) -> Option<&'a Value>
+pub fn known_operand<'a, S: Chosen>(
+    slots: &'a [Option<S>],
+    operand: &'a Operand,
+) -> Option<&'a Value>
     ensures { option_copied result ≡ known_operand (S.chosen slots.now) operand.now }
 {
     match operand {
@@ -97,7 +100,7 @@ pub fn must_all_hold(slots: &[Option<Tuple>], conds: &[Cond]) -> bool
 }
 
 /// Whether a comparison is known to hold.
-pub fn must_hold<S: Slot>(slots: &[Option<S>], cond: &Cond) -> bool
+pub fn must_hold<S: Chosen>(slots: &[Option<S>], cond: &Cond) -> bool
     ensures { result ≡ must_hold (S.chosen slots.now) cond.now }
 {
     match (known(slots, cond.left), known_operand(slots, &cond.right)) {
@@ -107,7 +110,7 @@ pub fn must_hold<S: Slot>(slots: &[Option<S>], cond: &Cond) -> bool
 }
 
 /// The values of columns, where all are known.
-pub fn known_row<S: Slot>(
+pub fn known_row<S: Chosen>(
     alloc: Global,
     slots: &[Option<S>],
     take: &[Ref],
@@ -143,7 +146,7 @@ pub fn path_of(
 }
 
 /// A user of a path: a fixed one, or the one chosen for a `Users` item.
-pub fn uid_of<S: Slot>(slots: &[Option<S>], who: Who) -> Option<u32>
+pub fn uid_of<S: Chosen>(slots: &[Option<S>], who: Who) -> Option<u32>
     ensures { result ≡ uid_of (S.chosen slots.now) who }
 {
     match who {

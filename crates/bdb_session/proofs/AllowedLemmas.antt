@@ -1,8 +1,9 @@
 -- Well formed tokens are well spelled, and a command that has a printed form is allowed.
 use Rattle.std.proofs.Common.{◌≡◌, ℕ, ◌<◌, Bool, true, false, not, ◌&&◌, nat_lt, nat_le, List, [], ◌∷◌, length, refl, arith}
 use Rattle.std.specs.List.{list_any, list_all, AllByRecursion}
+use Rattle.std.specs.Char.{is_ascii_digit}
 use Rattle.std.specs.Str.{is_utf8}
-use Rattle.std.proofs.lemmas.Bool.{false≢true, and_parts, and_from, or_from, not_from_true, not_from_false, lt-ltb}
+use Rattle.std.proofs.lemmas.Bool.{false≢true, and_parts, and_from, or_from, or_left, not_from_true, not_from_false, lt-ltb}
 use Rattle.std.proofs.lemmas.Bool.Decides.{nat_tests}
 use Rattle.std.proofs.lemmas.Str.{is_utf8-from_IsUtf8, IsUtf8-from_is_utf8}
 use Rattle.bdb_base.specs.declared.kinds.ColDef.{ColDef}
@@ -10,12 +11,12 @@ use Rattle.bdb_base.specs.declared.kinds.Value.{Value}
 use Rattle.bdb_base.specs.declared.kinds.Value.TheVariants as value
 use Rattle.bdb_base.specs.Bases.{is_clean, is_plain}
 use Rattle.bdb_base.proofs.ListLemmas.{list_all_weaker}
+use Rattle.bdb_base.specs.Letters.{is_letter, is_word_byte}
 use Rattle.bdb_lex.specs.declared.token.Token.{Token}
 use Rattle.bdb_lex.specs.declared.token.Token.TheVariants.{Word, Text}
-use Rattle.bdb_lex.specs.Bytes.{is_letter, is_word_byte}
-use Rattle.bdb_lex.specs.Reading.{is_word as is_word_read}
+use Rattle.bdb_lex.specs.Reading.{is_word}
 use Rattle.bdb_lex.specs.TokenGrammar.{is_formed}
-use Rattle.bdb_lex.proofs.TokenLemmas.{utf8_from}
+use Rattle.bdb_lex.proofs.TokenLemmas.{utf8_from, word_byte_low}
 use Rattle.bdb_syntax.specs.declared.command.RawSide.{RawSide}
 use Rattle.bdb_syntax.specs.declared.command.RawSide.TheVariants.{Col, Lit}
 use Rattle.bdb_syntax.specs.declared.command.RawCol.{RawCol}
@@ -28,27 +29,24 @@ use Rattle.bdb_syntax.specs.declared.command.RawSet.{RawSet}
 use Rattle.bdb_syntax.specs.declared.command.Command.{Command}
 use Rattle.bdb_syntax.specs.declared.command.Command.TheVariants.{CreateUser, CreateRelation, DropUser, Insert, Delete, Update, Select, Explain, ShowWorld, Why, ShowTables, Undo, Redo}
 use Rattle.bdb_syntax.specs.Filled.{is_filled}
-use Rattle.bdb_syntax.specs.Printable.{begins_word, is_in_word, is_word, IsNameWord, IsContent, IsPrintableValue, IsBareColumn, IsFullColumn, IsPrintableSide, IsPrintableCond, IsPrintableSet, IsPrintableWho, IsPrintableItem, IsPrintableQuery, IsPrintable}
+use Rattle.bdb_syntax.specs.Printable.{is_short_word, IsNameWord, IsContent, IsPrintableValue, IsBareColumn, IsFullColumn, IsPrintableSide, IsPrintableCond, IsPrintableSet, IsPrintableWho, IsPrintableItem, IsPrintableQuery, IsPrintable}
 use Rattle.bdb_parse.specs.Spelled.{IsWellSpelled, AreWellSpelled}
 use Rattle.bdb_bind.specs.Parts.{some_text, some_query_text, some_who_text, value_texts, side_texts}
 use Rattle.bdb_bind.specs.Fits.{is_unclean, names_allowed, is_allowed}
 
 -- tokens
 
-in_word : (b : ℕ) → is_word_byte b ≡ true → is_in_word b ≡ true
-in_word b h = grind (arith, nat_tests)
-
 -- the two tests of a word agree
-word_is_spelled : (w : List ℕ) → is_word_read w ≡ true → nat_le (length w) 255 ≡ true → is_word w ≡ true
+word_is_spelled : (w : List ℕ) → is_word w ≡ true → nat_le (length w) 255 ≡ true → is_short_word w ≡ true
 word_is_spelled [] h short = absurd (false≢true h)
 word_is_spelled (b ∷ w) h short =
     let k = and_parts (is_letter b) (list_all is_word_byte (b ∷ w)) h in
     let rest = and_parts (is_word_byte b) (list_all is_word_byte w) k.1 in
-    and_from (begins_word b) (list_all is_in_word w && nat_le (length (b ∷ w)) 255) k.0
-    (and_from (list_all is_in_word w) (nat_le (length (b ∷ w)) 255) (list_all_weaker is_word_byte is_in_word in_word w rest.1) short)
+    and_from (is_letter b) (list_all is_word_byte w && nat_le (length (b ∷ w)) 255) k.0
+    (and_from (list_all is_word_byte w) (nat_le (length (b ∷ w)) 255) rest.1 short)
 
 token_is_spelled : (t : Token) → is_formed t ≡ true → IsWellSpelled t
-token_is_spelled (Word w) h = let k = and_parts (is_word_read w) (nat_le (length w) 255) h in word_is_spelled w k.0 k.1
+token_is_spelled (Word w) h = let k = and_parts (is_word w) (nat_le (length w) 255) h in word_is_spelled w k.0 k.1
 token_is_spelled (Text t) h = let k = and_parts (is_utf8 t) (list_all (λ b. nat_le 32 b) t) h in (IsUtf8-from_is_utf8 t k.0, k.1)
 token_is_spelled t h = tt
 
@@ -112,24 +110,21 @@ sets_are_clean sets h = none_pass IsPrintableSet (λ s. list_any is_unclean (val
 
 -- names
 
-begin_in_word : (b : ℕ) → begins_word b ≡ true → is_in_word b ≡ true
-begin_in_word b h = grind (arith, nat_tests)
+begin_in_word : (b : ℕ) → is_letter b ≡ true → is_word_byte b ≡ true
+begin_in_word b h = or_left (is_letter b) (is_ascii_digit b) h
 
-in_word_low : (b : ℕ) → is_in_word b ≡ true → b < 128
-in_word_low b h = grind (arith, nat_tests)
-
-in_word_high : (b : ℕ) → is_in_word b ≡ true → nat_le 32 b ≡ true
+in_word_high : (b : ℕ) → is_word_byte b ≡ true → nat_le 32 b ≡ true
 in_word_high b h = grind (arith, nat_tests)
 
-word_is_plain : (w : List ℕ) → is_word w ≡ true → is_plain w ≡ true
+word_is_plain : (w : List ℕ) → is_short_word w ≡ true → is_plain w ≡ true
 word_is_plain [] h = absurd (false≢true h)
 word_is_plain (b ∷ w) h =
-    let k = and_parts (begins_word b) (list_all is_in_word w && nat_le (length (b ∷ w)) 255) h in
-    let m = and_parts (list_all is_in_word w) (nat_le (length (b ∷ w)) 255) k.1 in
-    let all : list_all is_in_word (b ∷ w) ≡ true = and_from (is_in_word b) (list_all is_in_word w) (begin_in_word b k.0) m.0 in
+    let k = and_parts (is_letter b) (list_all is_word_byte w && nat_le (length (b ∷ w)) 255) h in
+    let m = and_parts (list_all is_word_byte w) (nat_le (length (b ∷ w)) 255) k.1 in
+    let all : list_all is_word_byte (b ∷ w) ≡ true = and_from (is_word_byte b) (list_all is_word_byte w) (begin_in_word b k.0) m.0 in
     and_from (nat_le (length (b ∷ w)) 255) (is_clean (b ∷ w)) m.1
-    (and_from (is_utf8 (b ∷ w)) (list_all (λ c. nat_le 32 c) (b ∷ w)) (utf8_from is_in_word in_word_low (b ∷ w) all)
-    (list_all_weaker is_in_word (λ c. nat_le 32 c) in_word_high (b ∷ w) all))
+    (and_from (is_utf8 (b ∷ w)) (list_all (λ c. nat_le 32 c) (b ∷ w)) (utf8_from is_word_byte word_byte_low (b ∷ w) all)
+    (list_all_weaker is_word_byte (λ c. nat_le 32 c) in_word_high (b ∷ w) all))
 
 columns_are_plain : (cols : List ColDef) → AllByRecursion (λ (c : ColDef). IsNameWord c.name) cols → list_all (λ c. is_plain c.name) cols ≡ true
 columns_are_plain cols h = all_pass (λ (c : ColDef). IsNameWord c.name) (λ c. is_plain c.name) (λ c n. word_is_plain c.name n.0) cols h

@@ -56,7 +56,7 @@ use Rattle.bdb_syntax.specs.declared.command.RawSide.{RawSide}
 use Rattle.bdb_syntax.specs.declared.command.RawSide.TheVariants as sides
 use Rattle.bdb_syntax.specs.declared.command.RawWho.{RawWho}
 use Rattle.bdb_syntax.specs.declared.command.RawWho.TheVariants as who
-use Rattle.bdb_syntax.specs.Printable.{IsFullColumn, IsPrintable, IsPrintableCond, IsPrintableItem, IsPrintableQuery, IsPrintableSide, IsPrintableValue, begins_word, is_in_word, is_word}
+use Rattle.bdb_syntax.specs.Printable.{IsFullColumn, IsPrintable, IsPrintableCond, IsPrintableItem, IsPrintableQuery, IsPrintableSide, IsPrintableValue, is_short_word}
 use Rattle.bdb_session.proofs.AllowedLemmas.{well_spelled}
 use Rattle.bdb_session.proofs.ErrorBases.{if_there, visible_is_other}
 use Rattle.bdb_session.proofs.ErrorPlans.{has_flat_alias, is_flat_cond, is_flat_operand}
@@ -92,18 +92,18 @@ reading_printable bytes = by_tokens bytes (tokens_of bytes) refl
 
 -- ---- the aliases and literals of a query that is read have no line feed
 
-in_word_other : (c : ℕ) → is_in_word c ≡ true → not (nat_eq c 10) ≡ true
+in_word_other : (c : ℕ) → is_word_byte c ≡ true → not (nat_eq c 10) ≡ true
 in_word_other c h = grind (arith, nat_tests)
 
-begin_other : (c : ℕ) → begins_word c ≡ true → not (nat_eq c 10) ≡ true
+begin_other : (c : ℕ) → is_letter c ≡ true → not (nat_eq c 10) ≡ true
 begin_other c h = grind (arith, nat_tests)
 
-word_flat : (w : List ℕ) → is_word w ≡ true → IsFlat w
+word_flat : (w : List ℕ) → is_short_word w ≡ true → IsFlat w
 word_flat [] h = refl
 word_flat (c ∷ cs) h =
-    let k = and_parts (begins_word c) (list_all is_in_word cs && nat_le (length (c ∷ cs)) longest_word) h in
-    let m = and_parts (list_all is_in_word cs) (nat_le (length (c ∷ cs)) longest_word) k.1 in
-    and_from (not (nat_eq c 10)) (lacks 10 cs) (begin_other c k.0) (list_all_weaker is_in_word (λ c. not (nat_eq c 10)) in_word_other cs m.0)
+    let k = and_parts (is_letter c) (list_all is_word_byte cs && nat_le (length (c ∷ cs)) longest_word) h in
+    let m = and_parts (list_all is_word_byte cs) (nat_le (length (c ∷ cs)) longest_word) k.1 in
+    and_from (not (nat_eq c 10)) (lacks 10 cs) (begin_other c k.0) (list_all_weaker is_word_byte (λ c. not (nat_eq c 10)) in_word_other cs m.0)
 
 literal_flat : (v : Value) → IsPrintableValue v → is_flat_value v ≡ true
 literal_flat (Int n) h = refl

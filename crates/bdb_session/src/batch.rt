@@ -19,14 +19,11 @@ use crate::refusals::refusal_from;
 use crate::reply::Reply;
 use crate::session::Session;
 use crate::transact::{begin, commit};
-use bdb_base::{Exact, List};
+use bdb_base::{Exact, Lines, List};
 use bdb_bind::{Bound, bind_by};
 use bdb_keep::Keeper;
 use bdb_syntax::Command;
 use std::alloc::AllocError;
-
-/// Lines of a session, each without its semicolon.
-pub type Lines = List<List<u8>>;
 
 /// The reply to a batch: how many lines come before the first that is refused, whether one is, and the replies to the lines, one
 /// behind the other, up to and with that of the first that is refused.

@@ -27,7 +27,7 @@ mod undo;
 mod why;
 mod within;
 
-pub use batch::{BatchReply, Lines};
+pub use batch::BatchReply;
 pub use course::Course;
 pub use error::StopError;
 pub use event::Event;

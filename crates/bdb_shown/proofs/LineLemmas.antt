@@ -15,7 +15,7 @@ use Rattle.bdb_key.specs.Rows.{IsAnyMark, IsTupleRow, mark_bytes, tuple_bytes}
 use Rattle.bdb_key.proofs.Readings.{num_form}
 use Rattle.bdb_render.specs.Replies.{count_reply, held_line, mark_text, relation_name, row_text, sign_text, tuple_text, world_reply}
 use Rattle.bdb_shown.specs.Rows.{Spell, SpellsRow, raw, told, told_line}
-use Rattle.bdb_shown.specs.declared.row.Row.{Row}
+use Rattle.bdb_shown.specs.declared.row.WorldRow.{WorldRow}
 use Rattle.bdb_tables.specs.InUseLaws.{mark_rows_are_one}
 use Rattle.bdb_tables.specs.Marks.{Mark}
 
@@ -82,13 +82,13 @@ line_written c own row sign explicit mark old signed tupled out r s t marked m h
 -- ---- rows one after the other
 
 -- the row of a world whose bytes stand at an index, whatever stands for one past the end
-pub record IsNext (rows : List Row) (held : List Held) (i : ℕ) (d : Row) : Type 0 where
+pub record IsNext (rows : List WorldRow) (held : List Held) (i : ℕ) (d : WorldRow) : Type 0 where
   pub here : Held
   pub spells : SpellsRow (raw (get_or rows i d)) here
   pub within : i < length held
   pub is : here ≡ get_or held i here
 
-pub row_next : (rows : List Row) (held : List Held) (i : ℕ) (d : Row) → i < length rows → Spell (map raw rows) held → IsNext rows held i d
+pub row_next : (rows : List WorldRow) (held : List Held) (i : ℕ) (d : WorldRow) → i < length rows → Spell (map raw rows) held → IsNext rows held i d
 row_next [] held i d lt s = absurd (omega arith)
 row_next (r ∷ rows) [] i d lt s = absurd s
 row_next (r ∷ rows) (h ∷ held) zero d lt s = record { here = h; spells = s.0; within = omega arith; is = refl }
@@ -96,14 +96,14 @@ row_next (r ∷ rows) (h ∷ held) (suc i) d lt s =
     let n = row_next rows held i d (omega arith) s.1 in
     record { here = n.here; spells = n.spells; within = omega (arith, n.within); is = n.is }
 
-pub as_many : (rows : List Row) (held : List Held) → Spell (map raw rows) held → length held ≡ length rows
+pub as_many : (rows : List WorldRow) (held : List Held) → Spell (map raw rows) held → length held ≡ length rows
 as_many [] [] s = refl
 as_many [] (h ∷ held) s = absurd s
 as_many (r ∷ rows) [] s = absurd s
 as_many (r ∷ rows) (h ∷ held) s = ap suc (as_many rows held s.1)
 
 -- one line more
-pub lines_more : (c : Catalog) (own : Bool) (rows : List Row) (i : ℕ) (d : Row) (old new : List ℕ) → i < length rows
+pub lines_more : (c : Catalog) (own : Bool) (rows : List WorldRow) (i : ℕ) (d : WorldRow) (old new : List ℕ) → i < length rows
     → ((held : List Held) → Spell (map raw rows) held → old ≡ flat_map (told_line c own) (take i held))
     → ((h : Held) → SpellsRow (raw (get_or rows i d)) h → new ≡ old ++ told_line c own h)
     → (held : List Held) → Spell (map raw rows) held → new ≡ flat_map (told_line c own) (take (i + 1) held)
@@ -123,7 +123,7 @@ length_told own [] = refl
 length_told own (h ∷ held) = ap suc (length_told own held)
 
 -- the lines with their number are the reply
-pub lines_all : (c : Catalog) (own : Bool) (rows : List Row) (i : ℕ) (old new : List ℕ) → length rows ≤ i
+pub lines_all : (c : Catalog) (own : Bool) (rows : List WorldRow) (i : ℕ) (old new : List ℕ) → length rows ≤ i
     → ((held : List Held) → Spell (map raw rows) held → old ≡ flat_map (told_line c own) (take i held))
     → new ≡ old ++ count_reply (length rows)
     → (held : List Held) → Spell (map raw rows) held → new ≡ world_reply c (record { held = map (told own) held })

@@ -11,7 +11,7 @@ use Rattle.bdb_keep.specs.Spans.{Listed}
 use Rattle.bdb_keep.specs.Tables.{bytes_cmp}
 use Rattle.bdb_key.specs.Rows.{tuple_bytes}
 use Rattle.bdb_shown.specs.Rows.{AreOrdered, Spell, SpellsRow, raw}
-use Rattle.bdb_shown.specs.declared.row.Row.{Row}
+use Rattle.bdb_shown.specs.declared.row.WorldRow.{WorldRow}
 use Rattle.bdb_tables.specs.InUseLaws.{tuples_in_order}
 use Rattle.bdb_val.specs.WorldReads.{tuple_is_before}
 
@@ -75,16 +75,16 @@ rows_compare r s g h p q =
     ap (λ x. bytes_cmp x s.0) (sym p.tuple.spelled) ∙ ap (λ x. bytes_cmp (tuple_bytes g.tuple) x) (sym q.tuple.spelled)
     ∙ tuples_in_order g.tuple h.tuple p.tuple.fits q.tuple.fits
 
-raw_at : (rows : List Row) (i : ℕ) (d : Row) → get_or (map raw rows) i (raw d) ≡ raw (get_or rows i d)
+raw_at : (rows : List WorldRow) (i : ℕ) (d : WorldRow) → get_or (map raw rows) i (raw d) ≡ raw (get_or rows i d)
 raw_at [] i d = refl
 raw_at (r ∷ rows) zero d = refl
 raw_at (r ∷ rows) (suc i) d = raw_at rows i d
 
-length_raw : (rows : List Row) → length (map raw rows) ≡ length rows
+length_raw : (rows : List WorldRow) → length (map raw rows) ≡ length rows
 length_raw [] = refl
 length_raw (r ∷ rows) = ap suc (length_raw rows)
 
-pub sorted_alike : (rows : List Row) (held : List Held) → Spell (map raw rows) held → IsSortedBy (λ a b. is_lt (bytes_cmp a.tuple.now b.tuple.now)) rows → IsSortedBy tuple_is_before held
+pub sorted_alike : (rows : List WorldRow) (held : List Held) → Spell (map raw rows) held → IsSortedBy (λ a b. is_lt (bytes_cmp a.tuple.now b.tuple.now)) rows → IsSortedBy tuple_is_before held
 sorted_alike [] [] z up k d low high = absurd (omega arith)
 sorted_alike [] (h ∷ held) z up k d low high = absurd z
 sorted_alike (r ∷ rows) held z up k d low high =
@@ -96,13 +96,13 @@ sorted_alike (r ∷ rows) held z up k d low high =
     ap is_lt (sym (rows_compare (raw (get_or (r ∷ rows) (k + 1) r)) (raw (get_or (r ∷ rows) k r)) (get_or held (k + 1) d) (get_or held k d) a b)) ∙ up k r low within
 
 -- rows of a world in the order of their bytes
-pub record AreShownInOrder (rows : List Row) (held : List Held) : Type 0 where
+pub record AreShownInOrder (rows : List WorldRow) (held : List Held) : Type 0 where
   pub ordered : List Held
   pub moved : IsPermutation held ordered
   pub sorted : IsSortedBy tuple_is_before ordered
   pub spelled : Spell (map raw rows) ordered
 
-pub shown_in_order : (span : Listed) (rows : List Row) (held : List Held) → Spell span held → AreOrdered span rows → AreShownInOrder rows held
+pub shown_in_order : (span : Listed) (rows : List WorldRow) (held : List Held) → Spell span held → AreOrdered span rows → AreShownInOrder rows held
 shown_in_order span rows held s o =
     let m = moved_alike SpellsRow span (map raw rows) held s o.moved in
     record { ordered = m.others; moved = m.moved; sorted = sorted_alike rows m.others m.zip o.sorted; spelled = m.zip }

@@ -11,7 +11,7 @@ use Rattle.bdb_keep.specs.Tables.{Tables, bytes_cmp}
 use Rattle.bdb_key.specs.Reading.{Reads}
 use Rattle.bdb_key.specs.Rows.{IsTupleRow, tuple_bytes, IsAnyMark, mark_bytes}
 use Rattle.bdb_render.specs.Replies.{held_line}
-use Rattle.bdb_shown.specs.declared.row.Row.{Row}
+use Rattle.bdb_shown.specs.declared.row.WorldRow.{WorldRow}
 use Rattle.bdb_tables.specs.Codec.{place}
 use Rattle.bdb_tables.specs.InUse.{ValKey, IsValKey, val_bytes, tuple_codec}
 
@@ -41,7 +41,7 @@ StandWithTuples t stored = AllByRecursion (StandsWithTuple t) stored
 -- ---- rows of a world
 
 -- a row by its bytes
-abbrev pub raw : Row → List ℕ × List ℕ
+abbrev pub raw : WorldRow → List ℕ × List ℕ
 raw row = (row.tuple.now, row.mark.now)
 
 -- these bytes are the tuple of a row of a world, and its sign and mark
@@ -54,7 +54,7 @@ abbrev pub Spell : Listed → List Held → Type 0
 Spell rows held = AllZip SpellsRow rows held
 
 -- these are the rows, and none comes before the one in front of it
-pub record AreOrdered (rows : Listed) (ordered : List Row) : Type 0 where
+pub record AreOrdered (rows : Listed) (ordered : List WorldRow) : Type 0 where
   pub moved : IsPermutation rows (map raw ordered)
   pub sorted : IsSortedBy (λ a b. is_lt (bytes_cmp a.tuple.now b.tuple.now)) ordered
 

@@ -8,7 +8,7 @@ ghost use Rattle.bdb_render.specs.Replies.{mark_text, relation_name, sign_text, 
 ghost use Rattle.bdb_shown.specs.Rows.{Spell, SpellsRow, raw, told, told_line};
 ghost use Rattle.std.specs.Prelude.{List};
 
-use crate::row::Row;
+use crate::row::WorldRow;
 use crate::values::append_values;
 use bdb_base::{Catalog, List, Sign};
 use bdb_key::{mark_of, num_of};
@@ -23,7 +23,7 @@ pub fn rows_reply(
     alloc: Global,
     catalog: &Catalog,
     own: bool,
-    rows: &[Row<'_>],
+    rows: &[WorldRow<'_>],
 ) -> Result<List<u8>, AllocError>
     ensures { IfOk result (λ text. (held : List Held) → Spell (map raw rows.now) held
         → text ≡ world_reply catalog.now (record { held = map (told own) held })) }
@@ -41,7 +41,7 @@ fn append_line(
     out: &mut Vec<u8>,
     catalog: &Catalog,
     own: bool,
-    row: &Row<'_>,
+    row: &WorldRow<'_>,
 ) -> Result<(), AllocError>
     ensures { OnOk result ((held : Held) → SpellsRow (raw row.now) held
         → out.new.items ≡ out.old.items ++ told_line catalog.now own held) }

@@ -22,6 +22,7 @@ use Rattle.bdb_base.proofs.SetLemmas.{loop_makes_set, set_is_ascending, set_keep
 use Rattle.bdb_base.proofs.WorldLemmas.{valid_is_consistent}
 use Rattle.bdb_base.proofs.WorldRowsLemmas.{member_of_map}
 use Rattle.bdb_base.proofs.OptionLemmas.{some_of, one_there, some_mapped}
+use Rattle.bdb_base.specs.Causes.{is_listed}
 use Rattle.bdb_canon.specs.Canonical.{row_count}
 use Rattle.bdb_canon.specs.declared.sizes.Counts.{Counts}
 use Rattle.bdb_keep.specs.Tables.{Tables}
@@ -29,7 +30,7 @@ use Rattle.bdb_key.specs.Grammar.{IsNum}
 use Rattle.bdb_paths.proofs.StateLemmas.{list_has_states, states_are_counted}
 use Rattle.bdb_tables.specs.InUse.{depth_codec, tuple_codec}
 use Rattle.bdb_tables.specs.InUseLaws.{numbers_in_order, number_rows_are_one, tuple_rows_are_one}
-use Rattle.bdb_tables.specs.Names.{Names, AreNames, path_of, number_of, is_named, depth_of, is_listed, are_once}
+use Rattle.bdb_tables.specs.Names.{Names, AreNames, path_of, number_of, is_named, depth_of, are_once}
 use Rattle.bdb_tables.specs.Rows.{Tuples}
 use Rattle.bdb_tables.specs.Spans.{AreUnder}
 use Rattle.bdb_tables.specs.Stored.{StoredAs}

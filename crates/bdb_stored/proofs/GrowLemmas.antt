@@ -8,10 +8,11 @@ use Rattle.bdb_base.specs.Queries.{user_numbers}
 use Rattle.bdb_base.specs.OrderLemmas.{path_exact}
 use Rattle.bdb_base.specs.States.{states_of, stated_prefixes}
 use Rattle.bdb_base.proofs.SetLemmas.{set_is_ascending}
+use Rattle.bdb_base.specs.Causes.{is_listed}
 use Rattle.bdb_keep.specs.Tables.{Tables}
 use Rattle.bdb_names.proofs.NamedLemmas.{user_of_end}
 use Rattle.bdb_names.proofs.NameLemmas.{root_is_named}
-use Rattle.bdb_tables.specs.Names.{path_of, is_named, is_listed}
+use Rattle.bdb_tables.specs.Names.{path_of, is_named}
 use Rattle.bdb_stored.specs.Tree.{children_of, grown_from}
 use Rattle.bdb_catalog.specs.Bases.{StoresSome, StoresValid}
 use Rattle.bdb_catalog.specs.Opening.{IsPartOf}

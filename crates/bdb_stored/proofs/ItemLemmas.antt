@@ -10,7 +10,8 @@ use Rattle.std.proofs.lemmas.List.Sums.{sum_by-cons}
 use Rattle.bdb_base.specs.SortedSet.{IsExactOrder, ascending, is_member, put_at, put_in, sorted_set}
 use Rattle.bdb_base.proofs.SetLemmas.{is_eq-Equal, is_eq_itself, absent_above, set_is_ascending, set_keeps_members, members_make_set}
 use Rattle.bdb_base.proofs.BoolLemmas.{same_tests}
-use Rattle.bdb_tables.specs.Names.{is_listed, are_once}
+use Rattle.bdb_base.specs.Causes.{is_listed}
+use Rattle.bdb_tables.specs.Names.{are_once}
 use Rattle.bdb_tables.proofs.UsedLemmas.{AllNamed, rest_named, first_named}
 use Rattle.bdb_stored.specs.Items.{with_item, items_of}
 

@@ -8,10 +8,11 @@ use Rattle.std.proofs.lemmas.Bool.{and_parts, and_from, or_from, or_cases, false
 use Rattle.bdb_base.specs.SortedSet.{ascending}
 use Rattle.bdb_base.proofs.BoolLemmas.{same_tests}
 use Rattle.bdb_base.proofs.Numbers.{differs_turned}
+use Rattle.bdb_base.specs.Causes.{is_listed}
 use Rattle.bdb_keep.specs.Tables.{Tables, bytes_cmp}
 use Rattle.bdb_key.specs.Grammar.{IsNum}
 use Rattle.bdb_tables.specs.Codec.{Codec, KeepsOrder, HasOneRow}
-use Rattle.bdb_tables.specs.Names.{is_listed, are_once}
+use Rattle.bdb_tables.specs.Names.{are_once}
 use Rattle.bdb_tables.specs.Spans.{AreUnder, IsUnder, entry_cmp}
 use Rattle.bdb_tables.specs.Writes.{Gives}
 use Rattle.bdb_worlds.proofs.UnderLemmas.{row_in, under_is}

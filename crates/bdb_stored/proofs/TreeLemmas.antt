@@ -21,9 +21,9 @@ use Rattle.bdb_base.proofs.WorldLemmas.{list_any_weaker, found_by}
 use Rattle.bdb_base.proofs.WorldRowsLemmas.{list_any-flat_map, list_all-flat_map}
 use Rattle.bdb_base.proofs.Numbers.{less, greater}
 use Rattle.bdb_base.proofs.BoolLemmas.{same_tests}
+use Rattle.bdb_base.specs.Causes.{is_listed}
 use Rattle.bdb_names.proofs.Ends.{length_more, one_more}
 use Rattle.bdb_names.proofs.NamedLemmas.{cases_end}
-use Rattle.bdb_tables.specs.Names.{is_listed}
 use Rattle.bdb_stored.specs.Items.{with_item, items_of}
 use Rattle.bdb_stored.specs.Tree.{child_of, children_of, grown_from}
 use Rattle.bdb_stored.proofs.ItemLemmas.{item_is_member, member_is_item}

@@ -20,10 +20,10 @@ use Rattle.bdb_base.proofs.SetLemmas.{filter_keeps_order, members_make_set}
 use Rattle.bdb_base.proofs.UserLemmas.{numbers_are_live, user_above, user_within}
 use Rattle.bdb_base.proofs.BoolLemmas.{same_tests}
 use Rattle.bdb_base.proofs.Numbers.{less_number, eq_turned}
+use Rattle.bdb_base.specs.Causes.{is_listed}
 use Rattle.bdb_keep.specs.Tables.{Tables}
 use Rattle.bdb_tables.specs.InUse.{user_codec}
 use Rattle.bdb_tables.specs.InUseLaws.{numbers_in_order, slot_rows_are_one}
-use Rattle.bdb_tables.specs.Names.{is_listed}
 use Rattle.bdb_tables.specs.Spans.{AreUnder, IsUnder, entry_cmp}
 use Rattle.bdb_tables.specs.Stored.{slot_of}
 use Rattle.bdb_stored.specs.Items.{items_of, with_item}

@@ -1,12 +1,12 @@
 -- Commands that have a printed form.
-use Rattle.std.specs.Prelude.{◌≡◌, ℕ, Bool, true, false, ◌&&◌, ◌||◌, List, [], ◌∷◌, length, None, IsSomeAnd, nat_le, nat_eq}
-use Rattle.std.specs.Char.{is_ascii_alphabetic, is_ascii_alphanumeric}
+use Rattle.std.specs.Prelude.{◌≡◌, ℕ, Bool, true, false, ◌&&◌, List, [], ◌∷◌, length, None, IsSomeAnd, nat_le}
 use Rattle.std.specs.List.{list_all, AllByRecursion}
 use Rattle.std.specs.Str.{IsUtf8}
 use Rattle.bdb_base.specs.Limits.{longest_word}
 use Rattle.bdb_base.specs.declared.kinds.Value.{Value}
 use Rattle.bdb_base.specs.declared.kinds.Value.TheVariants as values
 use Rattle.bdb_base.specs.declared.kinds.ColDef.{ColDef}
+use Rattle.bdb_base.specs.Letters.{is_letter, is_word_byte}
 use Rattle.bdb_syntax.specs.declared.command.RawCol.{RawCol}
 use Rattle.bdb_syntax.specs.declared.command.RawSide.{RawSide}
 use Rattle.bdb_syntax.specs.declared.command.RawSide.TheVariants as sides
@@ -21,22 +21,14 @@ use Rattle.bdb_syntax.specs.declared.command.Command.TheVariants.{CreateUser, Dr
 use Rattle.bdb_syntax.specs.Keywords.{is_reserved}
 use Rattle.bdb_syntax.specs.Filled.{IsFilled}
 
--- a byte that may begin a word
-abbrev pub begins_word : ℕ → Bool
-begins_word c = is_ascii_alphabetic c || nat_eq c 95
-
--- a byte that may stand in a word
-abbrev pub is_in_word : ℕ → Bool
-is_in_word c = is_ascii_alphanumeric c || nat_eq c 95
-
 -- a letter or '_', then letters, digits or '_'; at most 255 bytes in all
-abbrev pub is_word : List ℕ → Bool
-is_word [] = false
-is_word (c ∷ cs) = begins_word c && (list_all is_in_word cs && nat_le (length (c ∷ cs)) longest_word)
+abbrev pub is_short_word : List ℕ → Bool
+is_short_word [] = false
+is_short_word (c ∷ cs) = is_letter c && (list_all is_word_byte cs && nat_le (length (c ∷ cs)) longest_word)
 
 -- a word that isn't reserved
 abbrev pub IsNameWord : List ℕ → Type 0
-IsNameWord w = (is_word w ≡ true) × (is_reserved w ≡ false)
+IsNameWord w = (is_short_word w ≡ true) × (is_reserved w ≡ false)
 
 -- UTF-8 without characters below U+0020
 abbrev pub IsContent : List ℕ → Type 0

@@ -5,7 +5,7 @@ use Rattle.std.proofs.lemmas.Bool.{and_from, and_parts, eq-eqb, eqb-true, falseâ
 use Rattle.std.proofs.lemmas.Bool.Decides.{nat_tests}
 use Rattle.bdb_base.specs.Changes.{names_user}
 use Rattle.bdb_base.specs.Segments.{is_prefix}
-use Rattle.bdb_tables.specs.Names.{is_listed}
+use Rattle.bdb_base.specs.Causes.{is_listed}
 
 -- ---- beginnings
 

@@ -2,7 +2,7 @@
 use Rattle.std.proofs.Common.{◌≡◌, ℕ, true, nat_eq, List, ◌∷◌, Option, Some, is_some, refl}
 use Rattle.std.proofs.lemmas.Bool.{or_left, or_right, eq-eqb}
 use Rattle.bdb_base.proofs.OptionLemmas.{some_of}
-use Rattle.bdb_tables.specs.Names.{is_listed}
+use Rattle.bdb_base.specs.Causes.{is_listed}
 
 abbrev pub AllNamed : {X : Type 0} → (ℕ → Option X) → List ℕ → Type 0
 AllNamed name ks = (k : ℕ) → is_listed k ks ≡ true → is_some (name k) ≡ true

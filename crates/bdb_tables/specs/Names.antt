@@ -1,8 +1,8 @@
 -- Names of worlds: which path each number stands for, and which number stands for each path.
 use Rattle.std.specs.Prelude.{◌≡◌, ℕ, ◌≤◌, ◌<◌, ◌^◌, Bool, true, false, not, ◌&&◌, nat_eq, List, [], ◌∷◌, length, filter, Option, None, Some, is_some, cond}
-use Rattle.std.specs.List.{list_any}
 use Rattle.std.specs.Option.{option_map, option_and_then}
 use Rattle.bdb_base.specs.Alternation.{alternates}
+use Rattle.bdb_base.specs.Causes.{is_listed}
 use Rattle.bdb_base.specs.Same.{same_path}
 use Rattle.bdb_base.specs.Segments.{is_suffix}
 use Rattle.bdb_base.specs.States.{HasPrefixes, suffix_link, edge_target}
@@ -28,10 +28,6 @@ number_of ns w = ns.number w
 -- a number stands for the path
 abbrev pub is_named : Names → List ℕ → Bool
 is_named ns w = is_some (number_of ns w)
-
--- a number is one of these
-abbrev pub is_listed : ℕ → List ℕ → Bool
-is_listed n ks = list_any (nat_eq n) ks
 
 -- something leads to this number
 abbrev pub leads_to : Option ℕ → ℕ → Bool

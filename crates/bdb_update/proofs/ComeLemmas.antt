@@ -6,9 +6,10 @@ use Rattle.std.specs.Option.{option_map}
 use Rattle.std.specs.FinMap as tables
 use Rattle.std.proofs.lemmas.Bool.{and_from}
 use Rattle.bdb_base.specs.declared.kinds.Stmt.{Stmt}
+use Rattle.bdb_base.specs.Causes.{is_listed}
 use Rattle.bdb_keep.specs.Tables.{Tables}
 use Rattle.bdb_tables.specs.InUse.{val_codec}
-use Rattle.bdb_tables.specs.Names.{Names, path_of, is_listed, are_once, with_name}
+use Rattle.bdb_tables.specs.Names.{Names, path_of, are_once, with_name}
 use Rattle.bdb_tables.specs.Rows.{HoldsRows, row_named}
 use Rattle.bdb_tables.proofs.DifferenceLemmas.{differences_are_counted}
 use Rattle.bdb_val.specs.WorldCopies.{IsBareWorld}

@@ -10,8 +10,9 @@ use Rattle.bdb_base.specs.declared.kinds.Stmt.{Stmt}
 use Rattle.bdb_base.proofs.CountLemmas.{distinct_count-same, one_unless}
 use Rattle.bdb_base.proofs.BoolLemmas.{same_tests}
 use Rattle.bdb_base.proofs.OptionLemmas.{some_of}
+use Rattle.bdb_base.specs.Causes.{is_listed}
 use Rattle.bdb_paths.proofs.StateLemmas.{state_is_listed}
-use Rattle.bdb_tables.specs.Names.{Names, AreNames, path_of, number_of, is_named, is_listed, are_once}
+use Rattle.bdb_tables.specs.Names.{Names, AreNames, path_of, number_of, is_named, are_once}
 use Rattle.bdb_tables.proofs.UsedLemmas.{AllNamed, rest_named}
 
 module _ (ns : Names) (names : AreNames ns) where

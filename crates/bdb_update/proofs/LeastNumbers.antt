@@ -13,6 +13,7 @@ use Rattle.bdb_base.specs.declared.tuple.Tuple.{Tuple}
 use Rattle.bdb_base.proofs.ClashLemmas.{same_tuple_turned}
 use Rattle.bdb_base.proofs.OptionLemmas.{some_of, one_there}
 use Rattle.bdb_base.proofs.Numbers.{number_le}
+use Rattle.bdb_base.specs.Causes.{is_listed}
 use Rattle.bdb_keep.specs.Tables.{Tables}
 use Rattle.bdb_key.specs.Bytes.{num_bytes}
 use Rattle.bdb_key.specs.Grammar.{IsNum}
@@ -21,7 +22,7 @@ use Rattle.bdb_tables.specs.Codec.{HasAt, HasFirst, place}
 use Rattle.bdb_tables.specs.Gaps.{IsFirstGap}
 use Rattle.bdb_tables.specs.InUse.{tuple_codec, tuple_ix_codec}
 use Rattle.bdb_tables.specs.InUseLaws.{number_rows_are_one}
-use Rattle.bdb_tables.specs.Names.{are_once, is_listed}
+use Rattle.bdb_tables.specs.Names.{are_once}
 use Rattle.bdb_tables.specs.Rows.{Tuples, HoldsTuples}
 use Rattle.bdb_tables.specs.Stored.{SameBut}
 use Rattle.bdb_tables.proofs.SameLemmas.{tuples_still}

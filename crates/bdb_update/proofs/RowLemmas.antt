@@ -28,6 +28,7 @@ use Rattle.bdb_base.proofs.WorldLemmas.{stated_tuples_are_explicit}
 use Rattle.bdb_base.proofs.WorldRowsLemmas.{rows_are_the_world, same_row_tells, same_row_from, tuples_stand_once}
 use Rattle.bdb_base.proofs.OptionLemmas.{some_of}
 use Rattle.bdb_base.proofs.AllLemmas.{all_append}
+use Rattle.bdb_base.specs.Causes.{is_listed}
 use Rattle.bdb_canon.specs.Canonical.{row_count}
 use Rattle.bdb_keep.specs.Tables.{Tables}
 use Rattle.bdb_key.specs.Grammar.{IsNum}
@@ -35,7 +36,7 @@ use Rattle.bdb_tables.specs.Codec.{place}
 use Rattle.bdb_tables.specs.InUse.{ValKey, IsValKey, val_bytes, val_codec}
 use Rattle.bdb_tables.specs.InUseLaws.{vals_are_one}
 use Rattle.bdb_tables.specs.Marks.{Mark, sign_by, marked, mark_of}
-use Rattle.bdb_tables.specs.Names.{Names, path_of, is_listed, are_once}
+use Rattle.bdb_tables.specs.Names.{Names, path_of, are_once}
 use Rattle.bdb_tables.specs.Rows.{Tuples, HoldsTuples, HoldsRows, row_for, AreKeyLengths}
 use Rattle.bdb_tables.proofs.DifferenceLemmas.{is_among, distinct_append}
 use Rattle.bdb_tables.proofs.UsedLemmas.{AllNamed, rest_named, first_named}

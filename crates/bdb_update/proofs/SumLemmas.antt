@@ -23,9 +23,10 @@ use Rattle.bdb_base.proofs.BaseLemmas.{length-put_in}
 use Rattle.bdb_base.proofs.SetLemmas.{is_lt-Less, set_is_ascending}
 use Rattle.bdb_base.proofs.WorldRowsLemmas.{one_row}
 use Rattle.bdb_base.proofs.OptionLemmas.{some_of}
+use Rattle.bdb_base.specs.Causes.{is_listed}
 use Rattle.bdb_canon.specs.Canonical.{row_count}
 use Rattle.bdb_paths.proofs.StateLemmas.{list_has_states}
-use Rattle.bdb_tables.specs.Names.{Names, AreNames, path_of, number_of, is_named, is_listed, are_once}
+use Rattle.bdb_tables.specs.Names.{Names, AreNames, path_of, number_of, is_named, are_once}
 use Rattle.bdb_tables.proofs.DifferenceLemmas.{is_among}
 use Rattle.bdb_tables.proofs.UsedLemmas.{AllNamed, rest_named, first_named}
 use Rattle.bdb_update.proofs.RowLemmas.{rows_of, rows_of_is, rows_of_few}

@@ -11,7 +11,7 @@ use Rattle.std.proofs.lemmas.List.Folds.{list_any-append}
 use Rattle.bdb_base.specs.declared.kinds.Stmt.{Stmt}
 use Rattle.bdb_base.specs.declared.kinds.Value.{Value}
 use Rattle.bdb_base.specs.declared.tuple.Tuple.{Tuple}
-use Rattle.bdb_base.specs.Causes.{Rises}
+use Rattle.bdb_base.specs.Causes.{Rises, is_listed}
 use Rattle.bdb_base.specs.Same.{same_text}
 use Rattle.bdb_base.specs.SameLemmas.{same_text-Decides}
 use Rattle.bdb_base.specs.SortedSet.{ascending}
@@ -29,7 +29,7 @@ use Rattle.bdb_tables.specs.Differences.{AreDifferences}
 use Rattle.bdb_tables.specs.InUse.{ValKey, IsValKey, pair_bytes, val_bytes, link_codec, linked_codec, val_codec}
 use Rattle.bdb_tables.specs.InUseLaws.{vals_are_one}
 use Rattle.bdb_tables.specs.Marks.{Mark}
-use Rattle.bdb_tables.specs.Names.{Names, AreNames, path_of, link_of, is_listed, are_once}
+use Rattle.bdb_tables.specs.Names.{Names, AreNames, path_of, link_of, are_once}
 use Rattle.bdb_tables.specs.Spans.{IsUnder, entry_cmp}
 use Rattle.bdb_tables.specs.GroupMarks.{group_bytes}
 use Rattle.bdb_tables.proofs.DifferenceLemmas.{differences_add, differences_are_counted}

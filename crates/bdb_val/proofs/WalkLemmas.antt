@@ -15,6 +15,7 @@ use Rattle.bdb_base.specs.Same.{same_values, same_tuple}
 use Rattle.bdb_base.specs.SameLemmas.{same_tuple-Decides, same_values-Decides}
 use Rattle.bdb_base.specs.Segments.{is_prefix}
 use Rattle.bdb_base.proofs.OptionLemmas.{some_of}
+use Rattle.bdb_base.specs.Causes.{is_listed}
 use Rattle.bdb_keep.specs.Tables.{Tables, bytes_cmp}
 use Rattle.bdb_keep.proofs.RowsLemmas.{same_place}
 use Rattle.bdb_key.specs.Bytes.{num_bytes}
@@ -24,7 +25,7 @@ use Rattle.bdb_key.proofs.Readings.{num_form}
 use Rattle.bdb_tables.specs.InUse.{ValKey, IsPair, pair_bytes, linked_codec, val_codec}
 use Rattle.bdb_tables.specs.InUseLaws.{pairs_are_one}
 use Rattle.bdb_tables.specs.Marks.{Mark}
-use Rattle.bdb_tables.specs.Names.{Names, AreNames, path_of, link_of, leads_to, is_listed}
+use Rattle.bdb_tables.specs.Names.{Names, AreNames, path_of, link_of, leads_to}
 use Rattle.bdb_tables.specs.Rows.{HoldsRows}
 use Rattle.bdb_tables.specs.Spans.{IsUnder, entry_bytes}
 use Rattle.bdb_tables.specs.States.{row_where}

@@ -6,12 +6,13 @@ use Rattle.bdb_base.specs.Segments.{is_suffix}
 use Rattle.bdb_base.specs.States.{deepest_suffix}
 use Rattle.bdb_base.specs.OrderLemmas.{is_eq_nat_cmp}
 use Rattle.bdb_base.proofs.OptionLemmas.{none_is_some, same_some}
+use Rattle.bdb_base.specs.Causes.{is_listed}
 use Rattle.bdb_paths.proofs.SuffixLemmas.{deepest_is_suffix}
 use Rattle.bdb_keep.specs.Tables.{Tables}
 use Rattle.bdb_key.specs.Grammar.{IsNum}
 use Rattle.bdb_tables.specs.InUse.{IsPair, depth_codec, link_codec, linked_codec, edge_codec, led_codec}
 use Rattle.bdb_tables.specs.InUseLaws.{numbers_in_order}
-use Rattle.bdb_tables.specs.Names.{Names, path_of, number_of, is_named, is_listed, are_once, leads_to, without_name, depth_of, link_of, edge_of}
+use Rattle.bdb_tables.specs.Names.{Names, path_of, number_of, is_named, are_once, leads_to, without_name, depth_of, link_of, edge_of}
 use Rattle.bdb_tables.specs.States.{HoldsStates, TablesAre}
 use Rattle.bdb_tables.specs.Writes.{with_row_at}
 use Rattle.bdb_tables.proofs.WriteLemmas.{change_gives, change_elsewhere, gives_same}

@@ -10,12 +10,13 @@ use Rattle.bdb_base.specs.Segments.{is_prefix}
 use Rattle.bdb_base.specs.States.{deepest_suffix}
 use Rattle.bdb_base.proofs.BoolLemmas.{same_tests}
 use Rattle.bdb_base.proofs.SegmentLemmas.{take_is_prefix}
+use Rattle.bdb_base.specs.Causes.{is_listed}
 use Rattle.bdb_keep.specs.Tables.{Tables}
 use Rattle.bdb_key.specs.Bytes.{num_bytes}
 use Rattle.bdb_key.specs.Grammar.{IsNum}
 use Rattle.bdb_tables.specs.Codec.{HasAt, place}
 use Rattle.bdb_tables.specs.InUse.{IsPair, edge_codec}
-use Rattle.bdb_tables.specs.Names.{Names, path_of, number_of, is_named, is_listed, with_name, depth_of, link_of, edge_of}
+use Rattle.bdb_tables.specs.Names.{Names, path_of, number_of, is_named, with_name, depth_of, link_of, edge_of}
 use Rattle.bdb_tables.specs.States.{HoldsStates, TablesAre}
 use Rattle.bdb_tables.proofs.ListLemmas.{prefix_rest}
 use Rattle.bdb_names.specs.Moves.{IsLeaf, AreMovers}

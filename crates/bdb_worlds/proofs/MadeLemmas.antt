@@ -5,7 +5,7 @@ use Rattle.std.specs.Option.{option_map}
 use Rattle.std.specs.FinMap as tables
 use Rattle.std.proofs.lemmas.Bool.{and_parts, and_from, or_cases, or_left, or_right, false≢true, false_from_ne_true, cond-true, cond-false, eqb-true, eq-eqb, ne_eqb, eqb-false, cases_lt}
 use Rattle.bdb_base.specs.Alternation.{alternates}
-use Rattle.bdb_base.specs.Causes.{Rises}
+use Rattle.bdb_base.specs.Causes.{Rises, is_listed}
 use Rattle.bdb_base.specs.Same.{same_path}
 use Rattle.bdb_base.specs.SameLemmas.{same_path-Decides}
 use Rattle.bdb_base.specs.Segments.{is_prefix}
@@ -14,7 +14,7 @@ use Rattle.bdb_base.proofs.SegmentLemmas.{prefix_is_take, length-prefix, length-
 use Rattle.bdb_keep.specs.Seen.{Seen}
 use Rattle.bdb_keep.specs.Tables.{Tables}
 use Rattle.bdb_tables.specs.Differences.{AreDifferences}
-use Rattle.bdb_tables.specs.Names.{Names, AreNames, path_of, number_of, is_named, is_listed, are_once, with_name, depth_of, link_of, edge_of}
+use Rattle.bdb_tables.specs.Names.{Names, AreNames, path_of, number_of, is_named, are_once, with_name, depth_of, link_of, edge_of}
 use Rattle.bdb_tables.specs.States.{HoldsStates}
 use Rattle.bdb_names.specs.Moves.{IsLeaf, AreMovers, edge_moves, link_moves}
 use Rattle.bdb_names.specs.Turned.{same_edge, look}

@@ -7,12 +7,13 @@ use Rattle.std.specs.FinMap as tables
 use Rattle.std.proofs.lemmas.Bool.{cases_Bool, and_parts, and_from, or_from, or_parts, false≢true, cond-true, cond-false, eqb-true, ne_eqb, eqb-false, not-true, cases_lt}
 use Rattle.std.proofs.lemmas.List.Concat.{flat_map-cons}
 use Rattle.bdb_base.proofs.Numbers.{number_le}
+use Rattle.bdb_base.specs.Causes.{is_listed}
 use Rattle.bdb_keep.specs.Tables.{Tables}
 use Rattle.bdb_key.specs.Bytes.{num_bytes}
 use Rattle.bdb_key.specs.Grammar.{IsNum}
 use Rattle.bdb_tables.specs.Codec.{HasFirst, IsFirst, place}
 use Rattle.bdb_tables.specs.InUse.{edge_codec}
-use Rattle.bdb_tables.specs.Names.{is_listed, are_once, edge_of}
+use Rattle.bdb_tables.specs.Names.{are_once, edge_of}
 use Rattle.bdb_tables.specs.Spans.{AreUnder}
 use Rattle.bdb_tables.specs.States.{HoldsStates}
 use Rattle.bdb_names.specs.Turned.{look}

@@ -10,11 +10,12 @@ use Rattle.bdb_base.specs.SameLemmas.{same_path-Decides}
 use Rattle.bdb_base.specs.States.{deepest_suffix}
 use Rattle.bdb_base.proofs.OptionLemmas.{none_is_some, same_some}
 use Rattle.bdb_base.proofs.ListLemmas.{length_map}
+use Rattle.bdb_base.specs.Causes.{is_listed}
 use Rattle.bdb_paths.proofs.SuffixLemmas.{deepest_is_suffix, length-deepest}
 use Rattle.bdb_keep.specs.Tables.{Tables}
 use Rattle.bdb_key.specs.Grammar.{IsNum}
 use Rattle.bdb_tables.specs.Differences.{AreDifferences}
-use Rattle.bdb_tables.specs.Names.{Names, path_of, number_of, is_named, is_listed, are_once, without_name, depth_of, link_of, edge_of}
+use Rattle.bdb_tables.specs.Names.{Names, path_of, number_of, is_named, are_once, without_name, depth_of, link_of, edge_of}
 use Rattle.bdb_tables.specs.States.{HoldsStates}
 use Rattle.bdb_names.specs.Drops.{IsLast}
 use Rattle.bdb_names.specs.Turned.{same_edge, look}

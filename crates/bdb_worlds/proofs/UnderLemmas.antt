@@ -10,6 +10,7 @@ use Rattle.std.specs.FinMap.{find}
 use Rattle.std.proofs.lemmas.Bool.{and_parts, and_from, or_from, or_cases, false≢true, eqb-true, eq-eqb}
 use Rattle.bdb_base.specs.Segments.{is_prefix}
 use Rattle.bdb_base.specs.SortedSet.{ascending}
+use Rattle.bdb_base.specs.Causes.{is_listed}
 use Rattle.bdb_keep.specs.Tables.{Tables, bytes_cmp}
 use Rattle.bdb_key.specs.Bytes.{num_bytes}
 use Rattle.bdb_key.specs.Grammar.{IsNum}
@@ -17,7 +18,7 @@ use Rattle.bdb_key.proofs.Alone.{number_begins}
 use Rattle.bdb_tables.specs.Codec.{Codec, KeepsOrder, HasOneRow}
 use Rattle.bdb_tables.specs.InUse.{IsPair, pair_bytes, triple_bytes, linked_codec, edge_codec, led_codec}
 use Rattle.bdb_tables.specs.InUseLaws.{pairs_in_order, triples_in_order, number_rows_are_one, empty_rows_are_one}
-use Rattle.bdb_tables.specs.Names.{is_listed, are_once, leads_to}
+use Rattle.bdb_tables.specs.Names.{are_once, leads_to}
 use Rattle.bdb_tables.specs.Spans.{AreUnder, IsUnder, entry_bytes, entry_cmp}
 use Rattle.bdb_tables.specs.States.{row_where}
 use Rattle.bdb_tables.specs.Writes.{Gives}

@@ -4,7 +4,7 @@ use Rattle.std.specs.Option.{is_some}
 use Rattle.std.specs.List.{list_all}
 use Rattle.std.specs.FinMap as tables
 use Rattle.std.proofs.lemmas.Bool.{cases_Bool, cases_lt, and_parts, and_from, and_right, or_cases, false≢true, false_from_ne_true, cond-true, cond-false, eqb-true, eqb-false, eq-eqb, ne_eqb, lt-ltb, le-ltb, or_parts}
-use Rattle.bdb_base.specs.Causes.{Rises, RoseBy}
+use Rattle.bdb_base.specs.Causes.{Rises, RoseBy, is_listed}
 use Rattle.bdb_base.specs.Same.{same_path}
 use Rattle.bdb_base.specs.SameLemmas.{same_path-Decides}
 use Rattle.bdb_base.specs.Segments.{is_suffix}
@@ -17,7 +17,7 @@ use Rattle.bdb_keep.specs.Tables.{Tables}
 use Rattle.bdb_key.specs.Grammar.{IsNum}
 use Rattle.bdb_tables.specs.Codec.{HasAt, place}
 use Rattle.bdb_tables.specs.InUse.{depth_codec, edge_codec}
-use Rattle.bdb_tables.specs.Names.{Names, AreNames, path_of, number_of, is_named, is_listed, depth_of, link_of, edge_of}
+use Rattle.bdb_tables.specs.Names.{Names, AreNames, path_of, number_of, is_named, depth_of, link_of, edge_of}
 use Rattle.bdb_tables.specs.States.{HoldsStates, TablesAre}
 use Rattle.bdb_names.specs.Turned.{edge_set, same_edge, with_edge}
 use Rattle.bdb_names.proofs.NameLemmas.{path_is_named, deep_number, edge_at, edge_at_none, edge_is}

@@ -2,13 +2,13 @@
 use Rattle.std.proofs.Common.{◌≡◌, ◌∙◌, ℕ, ◌+◌, ◌*◌, ◌≤◌, ◌<◌, true, false, not, ◌||◌, nat_eq, nat_lt, cond, List, [], ◌∷◌, length, Option, Some, None, is_some, inl, inr, refl, ap, sym, arith}
 use Rattle.std.specs.FinMap as tables
 use Rattle.std.proofs.lemmas.Bool.{cases_Bool, cases_lt, and_parts, or_left, or_right, false≢true, lt-ltb, le-ltb, eqb-true, eqb-false, eq-eqb, not-true, or_parts}
-use Rattle.bdb_base.specs.Causes.{Rises}
+use Rattle.bdb_base.specs.Causes.{Rises, is_listed}
 use Rattle.bdb_keep.specs.Seen.{Seen}
 use Rattle.bdb_keep.specs.Tables.{Tables}
 use Rattle.bdb_key.specs.Grammar.{IsNum}
 use Rattle.bdb_tables.specs.Codec.{place}
 use Rattle.bdb_tables.specs.InUse.{depth_codec}
-use Rattle.bdb_tables.specs.Names.{Names, AreNames, path_of, depth_of, is_listed, are_once}
+use Rattle.bdb_tables.specs.Names.{Names, AreNames, path_of, depth_of, are_once}
 use Rattle.bdb_tables.specs.States.{HoldsStates}
 use Rattle.bdb_tables.specs.Writes.{Gives}
 use Rattle.bdb_worlds.specs.Holding.{Worlds}

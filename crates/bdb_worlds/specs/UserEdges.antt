@@ -1,13 +1,13 @@
 -- Edges for a user who comes, and of one who goes.
 use Rattle.std.specs.Prelude.{◌≡◌, ℕ, ◌+◌, ◌*◌, ◌≤◌, ◌<◌, Bool, true, false, not, ◌&&◌, nat_eq, List, length, Option, None, Some, MatchOption, is_some}
 use Rattle.std.specs.FinMap as tables
-use Rattle.bdb_base.specs.Causes.{Rises}
+use Rattle.bdb_base.specs.Causes.{Rises, is_listed}
 use Rattle.bdb_keep.specs.Seen.{Seen}
 use Rattle.bdb_keep.specs.Tables.{Tables}
 use Rattle.bdb_key.specs.Grammar.{IsNum}
 use Rattle.bdb_tables.specs.Codec.{HasAt, place}
 use Rattle.bdb_tables.specs.InUse.{depth_codec, edge_codec}
-use Rattle.bdb_tables.specs.Names.{is_named, is_listed}
+use Rattle.bdb_tables.specs.Names.{is_named}
 use Rattle.bdb_tables.specs.States.{HoldsStates}
 use Rattle.bdb_names.specs.Drops.{with_one_user}
 use Rattle.bdb_names.specs.Turned.{edge_set}

@@ -1,9 +1,9 @@
 // Batches over a keeper in memory.
 ghost use Rattle.std.specs.Prelude.{◌≡◌, length, IfOk};
 
-use bdb_base::List;
+use bdb_base::{Lines, List};
 use bdb_memory::MemKeeper;
-use bdb_session::{Lines, Session};
+use bdb_session::Session;
 use std::alloc::{AllocError, Global};
 use std::test::Fail;
 

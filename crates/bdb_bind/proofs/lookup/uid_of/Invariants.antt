@@ -1,6 +1,7 @@
 use Rattle.std.proofs.Common.{◌≡◌, ◌+◌, drop}
 use Rattle.std.specs.List.{position_from}
-use Rattle.bdb_bind.specs.Lookup.{is_called, uid_of}
+use Rattle.bdb_base.specs.Bases.{is_called}
+use Rattle.bdb_bind.specs.Lookup.{uid_of}
 use Rattle.bdb_bind.proofs.lookup.uid_of.Given as goal
 
 abbrev pub invariant-loop-at : goal.invariant-loop-at

@@ -1,6 +1,6 @@
 use Rattle.std.proofs.Common.{◌∙◌, ap, arith}
 use Rattle.std.specs.Str.{is_utf8}
-use Rattle.bdb_lex.specs.Bytes.{is_word_byte}
+use Rattle.bdb_base.specs.Letters.{is_word_byte}
 use Rattle.bdb_lex.proofs.TokenLemmas.{word_fails, word_reads, utf8_from, word_byte_low}
 use Rattle.bdb_lex.proofs.word.word_at.Goals as goal
 

@@ -1,6 +1,6 @@
 use Rattle.std.proofs.Common.{List, map, sym, subst}
 use Rattle.bdb_shown.specs.Rows.{Spell, raw}
-use Rattle.bdb_shown.specs.declared.row.Row.{Row}
+use Rattle.bdb_shown.specs.declared.row.WorldRow.{WorldRow}
 use Rattle.bdb_shown.proofs.OrderLemmas.{shown_in_order}
 use Rattle.bdb_shown.proofs.showing.ordered_reply.Goals as goal
 
@@ -11,5 +11,5 @@ returns c held spelled =
       ordered = o.ordered;
       moved = o.moved;
       sorted = o.sorted;
-      shows = c.in_ok-text.ensures o.ordered (subst (λ (rs : List Row). Spell (map raw rs) o.ordered) (sym c.deref.ensures.value) o.spelled);
+      shows = c.in_ok-text.ensures o.ordered (subst (λ (rs : List WorldRow). Spell (map raw rs) o.ordered) (sym c.deref.ensures.value) o.spelled);
     }
