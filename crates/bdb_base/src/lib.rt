@@ -29,7 +29,6 @@ mod validity;
 
 pub use base::Base;
 pub use calls::is_listed;
-pub use calls::is_listed;
 pub use changes::changed;
 pub use conditions::compares;
 pub use conditions::meets;
