@@ -60,12 +60,12 @@ fn depth_row(bytes: &[u8]) -> Result<TabRow, RowError>
     }
 }
 
-// The row of table 7 or 9.
+// The row of table 7 or 9: a link or an edge.
 fn link_row(bytes: &[u8]) -> Result<TabRow, RowError>
-    ensures ok { IfOk result (λ row. (Reads (IsRow 7) row_bytes bytes.now row)
-        × (Reads (IsRow 9) row_bytes bytes.now row)) }
-    ensures none { IsErrOf result RowError.NotARow → (NoneReads (IsRow 7) row_bytes bytes.now)
-        × (NoneReads (IsRow 9) row_bytes bytes.now) }
+    ensures link { IfOk result (Reads (IsRow 7) row_bytes bytes.now) }
+    ensures edge { IfOk result (Reads (IsRow 9) row_bytes bytes.now) }
+    ensures no_link { IsErrOf result RowError.NotARow → NoneReads (IsRow 7) row_bytes bytes.now }
+    ensures no_edge { IsErrOf result RowError.NotARow → NoneReads (IsRow 9) row_bytes bytes.now }
 {
     match only_num(bytes) {
         Some(n) => Ok(TabRow::Link(n)),
@@ -106,12 +106,12 @@ fn tuple_row(alloc: Global, bytes: &[u8]) -> Result<TabRow, RowError>
     }
 }
 
-// The row of table 8 or 10.
+// The row of table 8 or 10: a link or an edge turned round.
 fn empty_row(bytes: &[u8]) -> Result<TabRow, RowError>
-    ensures ok { IfOk result (λ row. (Reads (IsRow 8) row_bytes bytes.now row)
-        × (Reads (IsRow 10) row_bytes bytes.now row)) }
-    ensures none { IsErrOf result RowError.NotARow → (NoneReads (IsRow 8) row_bytes bytes.now)
-        × (NoneReads (IsRow 10) row_bytes bytes.now) }
+    ensures linked { IfOk result (Reads (IsRow 8) row_bytes bytes.now) }
+    ensures led { IfOk result (Reads (IsRow 10) row_bytes bytes.now) }
+    ensures no_linked { IsErrOf result RowError.NotARow → NoneReads (IsRow 8) row_bytes bytes.now }
+    ensures no_led { IsErrOf result RowError.NotARow → NoneReads (IsRow 10) row_bytes bytes.now }
 {
     if !bytes.is_empty() {
         return Err(RowError::NotARow);
