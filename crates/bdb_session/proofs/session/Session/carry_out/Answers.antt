@@ -23,8 +23,8 @@ execute-requires-clause-fits g c =
     let a = c.requires.agrees.agrees in
     let here = ap (λ (k : Known). k.catalog) c.self.view_is in
     let valid = subst IsCatalog (sym a.catalog) a.base.valid.catalog in
-    let fine = ap (λ (k : Catalog). refusal_of k command) (sym here) ∙ c.in-Ok.ensures.ok.0 in
-    let bound = c.in-Ok.ensures.ok.1 ∙ ap (λ (k : Catalog). bound_of k command) here in
+    let fine = ap (λ (k : Catalog). refusal_of k command) (sym here) ∙ c.in-Ok.ensures.accepted in
+    let bound = c.in-Ok.ensures.bound ∙ ap (λ (k : Catalog). bound_of k command) here in
     ap (fits_catalog catalog) bound ∙ what_is_bound_fits catalog command valid c.requires.allowed fine
 
 pub returns-in-Some-clause-served : goal.returns-in-Some-clause-served
@@ -43,8 +43,8 @@ returns-in-Ok-clause-remembers g c =
     let here = ap (λ (k : Known). k.catalog) c.self.view_is in
     moves_as (λ s. command_outcome s command) (λ s. bound_outcome s c.in-Ok.bound) c.args.self.now c.execute.new.self (g.K.Keeper.seen c.args.keeper.now) (g.K.Keeper.seen c.execute.new.keeper)
     c.execute.result
-    (λ s a. bound_command s command c.in-Ok.bound (ap (λ (k : Catalog). refusal_of k command) (sym (here ∙ a.catalog)) ∙ c.in-Ok.ensures.ok.0)
-    (c.in-Ok.ensures.ok.1 ∙ ap (λ (k : Catalog). bound_of k command) (here ∙ a.catalog))) c.execute.ensures.remembers
+    (λ s a. bound_command s command c.in-Ok.bound (ap (λ (k : Catalog). refusal_of k command) (sym (here ∙ a.catalog)) ∙ c.in-Ok.ensures.accepted)
+    (c.in-Ok.ensures.bound ∙ ap (λ (k : Catalog). bound_of k command) (here ∙ a.catalog))) c.execute.ensures.remembers
 
 pub returns-in-Some-clause-remembers : goal.returns-in-Some-clause-remembers
 returns-in-Some-clause-remembers g c =
@@ -58,7 +58,7 @@ returns-in-Some-clause-remembers g c =
 pub returns-in-Ok-clause-reads : goal.returns-in-Ok-clause-reads
 returns-in-Ok-clause-reads g c = λ fine.
     let here = ap (λ (k : Known). k.catalog) c.self.view_is in
-    reads_as _ _ _ _ _ _ (sym (c.in-Ok.ensures.ok.1 ∙ ap (λ (k : Catalog). bound_of k c.args.command) here)) c.execute.ensures.reads
+    reads_as _ _ _ _ _ _ (sym (c.in-Ok.ensures.bound ∙ ap (λ (k : Catalog). bound_of k c.args.command) here)) c.execute.ensures.reads
 
 pub returns-in-Some-clause-reads : goal.returns-in-Some-clause-reads
 returns-in-Some-clause-reads g c = λ fine.
@@ -68,7 +68,7 @@ returns-in-Some-clause-reads g c = λ fine.
 pub returns-in-Ok-clause-writes : goal.returns-in-Ok-clause-writes
 returns-in-Ok-clause-writes g c = λ fine.
     let here = ap (λ (k : Known). k.catalog) c.self.view_is in
-    writes_as _ _ _ _ _ _ (sym (c.in-Ok.ensures.ok.1 ∙ ap (λ (k : Catalog). bound_of k c.args.command) here)) c.execute.ensures.writes
+    writes_as _ _ _ _ _ _ (sym (c.in-Ok.ensures.bound ∙ ap (λ (k : Catalog). bound_of k c.args.command) here)) c.execute.ensures.writes
 
 pub returns-in-Some-clause-writes : goal.returns-in-Some-clause-writes
 returns-in-Some-clause-writes g c = λ fine.
@@ -84,5 +84,5 @@ returns-in-Some-clause-unwritten g c = nothing_unwritten (g.K.Keeper.seen c.args
 pub returns-in-Ok-clause-spared : goal.returns-in-Ok-clause-spared
 returns-in-Ok-clause-spared g c = λ spared.
     let here = ap (λ (k : Known). k.catalog) c.self.view_is in
-    let fine = ap (λ (k : Catalog). refusal_of k c.args.command) (sym here) ∙ c.in-Ok.ensures.ok.0 in
+    let fine = ap (λ (k : Catalog). refusal_of k c.args.command) (sym here) ∙ c.in-Ok.ensures.accepted in
     absurd (false≢true (sym spared ∙ ap is_none fine))

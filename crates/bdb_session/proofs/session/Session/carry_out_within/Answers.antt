@@ -22,8 +22,8 @@ execute_within-requires-clause-fits g c =
     let a = c.requires.agrees.agrees in
     let here = ap (λ (k : Known). k.catalog) c.self.view_is in
     let valid = subst IsCatalog (sym a.catalog) a.base.valid.catalog in
-    let fine = ap (λ (k : Catalog). refusal_of k command) (sym here) ∙ c.in-Ok.ensures.ok.0 in
-    let bound = c.in-Ok.ensures.ok.1 ∙ ap (λ (k : Catalog). bound_of k command) here in
+    let fine = ap (λ (k : Catalog). refusal_of k command) (sym here) ∙ c.in-Ok.ensures.accepted in
+    let bound = c.in-Ok.ensures.bound ∙ ap (λ (k : Catalog). bound_of k command) here in
     ap (fits_catalog catalog) bound ∙ what_is_bound_fits catalog command valid c.requires.allowed fine
 
 pub returns-in-Ok-clause-told : goal.returns-in-Ok-clause-told
@@ -32,8 +32,8 @@ returns-in-Ok-clause-told g c =
     let here = ap (λ (k : Known). k.catalog) c.self.view_is in
     tells_where (λ s. command_outcome s command) (λ s. bound_outcome s c.in-Ok.bound) c.args.self.now c.execute_within.new.self (g.K.Keeper.seen c.args.keeper.now)
     (g.K.Keeper.seen c.execute_within.new.keeper) c.execute_within.result
-    (λ s a. bound_command s command c.in-Ok.bound (ap (λ (k : Catalog). refusal_of k command) (sym (here ∙ a.catalog)) ∙ c.in-Ok.ensures.ok.0)
-    (c.in-Ok.ensures.ok.1 ∙ ap (λ (k : Catalog). bound_of k command) (here ∙ a.catalog))) c.execute_within.ensures.told
+    (λ s a. bound_command s command c.in-Ok.bound (ap (λ (k : Catalog). refusal_of k command) (sym (here ∙ a.catalog)) ∙ c.in-Ok.ensures.accepted)
+    (c.in-Ok.ensures.bound ∙ ap (λ (k : Catalog). bound_of k command) (here ∙ a.catalog))) c.execute_within.ensures.told
 
 pub returns-in-Some-clause-told : goal.returns-in-Some-clause-told
 returns-in-Some-clause-told g c =
@@ -55,8 +55,8 @@ returns-in-Ok-clause-altered g c =
     let command = c.args.command in
     let here = ap (λ (k : Known). k.catalog) c.self.view_is in
     alters_where (λ s. command_outcome s command) (λ s. bound_outcome s c.in-Ok.bound) c.args.self.now c.execute_within.new.self (g.K.Keeper.seen c.args.keeper.now) c.execute_within.result
-    (λ s a. bound_command s command c.in-Ok.bound (ap (λ (k : Catalog). refusal_of k command) (sym (here ∙ a.catalog)) ∙ c.in-Ok.ensures.ok.0)
-    (c.in-Ok.ensures.ok.1 ∙ ap (λ (k : Catalog). bound_of k command) (here ∙ a.catalog))) c.execute_within.ensures.altered
+    (λ s a. bound_command s command c.in-Ok.bound (ap (λ (k : Catalog). refusal_of k command) (sym (here ∙ a.catalog)) ∙ c.in-Ok.ensures.accepted)
+    (c.in-Ok.ensures.bound ∙ ap (λ (k : Catalog). bound_of k command) (here ∙ a.catalog))) c.execute_within.ensures.altered
 
 pub returns-in-Some-clause-altered : goal.returns-in-Some-clause-altered
 returns-in-Some-clause-altered g c =
