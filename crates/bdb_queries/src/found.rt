@@ -13,11 +13,11 @@ use std::marker::Model;
 
 /// A row of an answer, which contracts see as its values.
 #[derive(Drop)]
-struct Row {
+struct AnswerRow {
     values: List<Value>,
 }
 
-impl Model for Row {
+impl Model for AnswerRow {
     ghost use Rattle.bdb_queries.specs.Collected.{Values};
 
     ghost Value = { Values };
@@ -25,7 +25,7 @@ impl Model for Row {
     ghost view = { λ r. r.values };
 }
 
-impl PartialEq for Row {
+impl PartialEq for AnswerRow {
     ghost use Rattle.std.specs.Cmp.{partial_equiv_from_equiv, eq_by_cmp_equiv};
     ghost use Rattle.std.specs.Ordering.{eq_by_cmp};
     ghost use Rattle.bdb_base.specs.Order.{row_cmp};
@@ -40,14 +40,14 @@ impl PartialEq for Row {
     }
 }
 
-impl Eq for Row {
+impl Eq for AnswerRow {
     ghost use Rattle.std.specs.Cmp.{eq_by_cmp_equiv};
     ghost use Rattle.bdb_base.specs.OrderLemmas.{row_exact};
 
     ghost laws = { eq_by_cmp_equiv row_exact.total };
 }
 
-impl PartialOrd for Row {
+impl PartialOrd for AnswerRow {
     ghost use Rattle.std.specs.Prelude.{Some, refl};
     ghost use Rattle.std.specs.Cmp.{po};
     ghost use Rattle.bdb_base.specs.Order.{row_cmp};
@@ -62,7 +62,7 @@ impl PartialOrd for Row {
     }
 }
 
-impl Ord for Row {
+impl Ord for AnswerRow {
     ghost use Rattle.std.specs.Prelude.{refl};
     ghost use Rattle.bdb_base.specs.Order.{row_cmp};
     ghost use Rattle.bdb_base.specs.OrderLemmas.{row_exact};
@@ -83,7 +83,7 @@ impl Ord for Row {
 /// The rows found so far, in order, each once. Once there are more than there may be, it takes no more.
 #[derive(Drop)]
 pub struct Found {
-    rows: BTreeSet<Row>,
+    rows: BTreeSet<AnswerRow>,
     most: usize,
 }
 
@@ -120,7 +120,7 @@ impl Found {
         if !self.has_room() {
             return Ok(());
         }
-        put_row(&mut self.rows, Row { values })
+        put_row(&mut self.rows, AnswerRow { values })
     }
 
     /// The rows; none where there are too many.
@@ -133,7 +133,7 @@ impl Found {
         }
         let mut all = List::new(alloc);
         for row in rows {
-            let Row { values } = row;
+            let AnswerRow { values } = row;
             all.push(values)?;
         }
         Ok(Some(all))
@@ -141,7 +141,7 @@ impl Found {
 }
 
 /// Puts a row among others, unless it stands there.
-fn put_row(rows: &mut BTreeSet<Row>, row: Row) -> Result<(), AllocError>
+fn put_row(rows: &mut BTreeSet<AnswerRow>, row: AnswerRow) -> Result<(), AllocError>
     ensures { OnOk result (rows.new.keys ≡ put_in row_cmp rows.old.keys row) }
 {
     let Ok(_) = rows.insert(row) else {

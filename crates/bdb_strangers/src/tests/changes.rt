@@ -8,7 +8,7 @@ use std::test::Fail;
 
 /// A row that a table gets, or loses.
 #[derive(Drop)]
-pub(crate) struct Change {
+pub(crate) struct RowChange {
     tab: u8,
     key: Vec<u8>,
     row: Option<Vec<u8>>,
@@ -20,7 +20,7 @@ pub(crate) trait Settable: Drop {
     ghost running: { Self → Bool };
 
     /// Gives a table a row, or takes it away.
-    fn set(&mut self, change: &Change) -> Result<(), AllocError>
+    fn set(&mut self, change: &RowChange) -> Result<(), AllocError>
         requires idle { running self.old ≡ false }
         ensures idle { running self.new ≡ false };
 }
@@ -28,7 +28,7 @@ pub(crate) trait Settable: Drop {
 impl Settable for QuietKeeper {
     ghost running = { λ k. k.running };
 
-    fn set(&mut self, change: &Change) -> Result<(), AllocError> {
+    fn set(&mut self, change: &RowChange) -> Result<(), AllocError> {
         if change.tab == 0 || 15 < change.tab {
             return Ok(());
         }
@@ -45,7 +45,7 @@ impl Settable for QuietKeeper {
 impl Settable for MemKeeper {
     ghost running = { λ k. k.seen.running };
 
-    fn set(&mut self, change: &Change) -> Result<(), AllocError> {
+    fn set(&mut self, change: &RowChange) -> Result<(), AllocError> {
         if change.tab == 0 || 15 < change.tab {
             return Ok(());
         }
@@ -60,7 +60,7 @@ impl Settable for MemKeeper {
 }
 
 /// The changes that a line tells.
-fn changes_of(alloc: Global, line: &str) -> Result<Vec<Change>, Fail> {
+fn changes_of(alloc: Global, line: &str) -> Result<Vec<RowChange>, Fail> {
     let mut changes = Vec::new(alloc);
     for change in line.split(';') {
         let mut words = change.split_whitespace();
@@ -73,9 +73,9 @@ fn changes_of(alloc: Global, line: &str) -> Result<Vec<Change>, Fail> {
 }
 
 /// The change of these words.
-fn change_of(alloc: Global, tab: &str, key: &str, row: &str) -> Result<Change, Fail> {
+fn change_of(alloc: Global, tab: &str, key: &str, row: &str) -> Result<RowChange, Fail> {
     let tab = bytes_of(alloc, tab)?;
-    Ok(Change {
+    Ok(RowChange {
         tab: tab.first().copied().unwrap_or(0),
         key: bytes_of(alloc, key)?,
         row: if row == "-" {
