@@ -1,5 +1,5 @@
 // Binding a command.
-ghost use Rattle.std.specs.Prelude.{◌≡◌, ◌≢◌, None, Some, IfOk, IfErr};
+ghost use Rattle.std.specs.Prelude.{◌≡◌, ◌≢◌, None, Some, IfOk, IfErr, OnOk};
 ghost use Rattle.bdb_base.specs.Bases.{IsCatalog};
 ghost use Rattle.bdb_bind.specs.Lookup.{path_of};
 ghost use Rattle.bdb_bind.specs.Parts.{query_of, path_names, relation_place, change_columns};
@@ -33,8 +33,8 @@ use std::alloc::Global;
 /// their fixed order is answered.
 pub fn bind(alloc: Global, catalog: &Catalog, command: &Command) -> Result<Bound, BindError>
     requires catalog { IsCatalog catalog.now }
-    ensures ok { IfOk result (λ b. (refusal_of catalog.now command.now ≡ None)
-        × (b ≡ bound_of catalog.now command.now)) }
+    ensures accepted { OnOk result (refusal_of catalog.now command.now ≡ None) }
+    ensures bound { IfOk result (λ b. b ≡ bound_of catalog.now command.now) }
     ensures refused { IfErr result (λ e. e ≢ BindError.Memory → refusal_of catalog.now command.now
         ≡ Some e) }
 {
@@ -56,8 +56,8 @@ pub fn bind_by(
     command: Command,
 ) -> Result<Bound, BindError>
     requires catalog { IsCatalog catalog.now }
-    ensures ok { IfOk result (λ b. (refusal_of catalog.now command ≡ None)
-        × (b ≡ bound_of catalog.now command)) }
+    ensures accepted { OnOk result (refusal_of catalog.now command ≡ None) }
+    ensures bound { IfOk result (λ b. b ≡ bound_of catalog.now command) }
     ensures refused { IfErr result (λ e. e ≢ BindError.Memory → refusal_of catalog.now command
         ≡ Some e) }
 {
@@ -77,8 +77,8 @@ fn bind_taking(
     command: &mut Command,
 ) -> Result<Bound, BindError>
     requires catalog { IsCatalog catalog.now }
-    ensures ok { IfOk result (λ b. (refusal_of catalog.now command.old ≡ None)
-        × (b ≡ bound_of catalog.now command.old)) }
+    ensures accepted { OnOk result (refusal_of catalog.now command.old ≡ None) }
+    ensures bound { IfOk result (λ b. b ≡ bound_of catalog.now command.old) }
     ensures refused { IfErr result (λ e. e ≢ BindError.Memory → refusal_of catalog.now command.old
         ≡ Some e) }
 {

@@ -1,5 +1,5 @@
 -- Three readings of the same tokens: with a number outside i64 refused, with 0 for it, and with any number.
-use Rattle.std.proofs.Common.{◌≡◌, Bool, true, false, ◌&&◌, cond, Option, Some, None, Result, Err, refl, sym, ap, ◌∙◌, subst}
+use Rattle.std.proofs.Common.{◌≡◌, Bool, true, false, ◌&&◌, cond, Option, Some, None, IsSomeAnd, Result, Err, refl, sym, ap, ◌∙◌, subst}
 use Rattle.std.specs.Option.{option_map}
 use Rattle.std.proofs.lemmas.Bool.{and_from, and_left}
 use Rattle.bdb_parse.specs.declared.error.ParseError.{ParseError}
@@ -55,20 +55,28 @@ agrees_two f g k h e (wide x y t) (fitting z w u) =
 agrees_two f g k h e (wide x y t) (wide z w u) =
     wide (h x z) (h y w) (e x z ∙ and_left _ _ t)
 
-pub strict_reads : {X : Type 0} (f : X → Bool) (s l a : Option X) (x : X) → Agrees f s l a → s ≡ Some x → (a ≡ Some x) × (f x ≡ true)
+-- what the first reading reads is read with any number
+pub strict_reads : {X : Type 0} (f : X → Bool) (s l a : Option X) (x : X) → Agrees f s l a → s ≡ Some x → a ≡ Some x
 strict_reads f s l a x neither e = cc
-strict_reads f s l a x (fitting y z t) e = (e, (let same : y ≡ x = cc in ap f (sym same)) ∙ t)
+strict_reads f s l a x (fitting y z t) e = e
 strict_reads f s l a x (wide y z t) e = cc
+
+-- and it passes the test
+pub strict_passes : {X : Type 0} (f : X → Bool) (s l a : Option X) (x : X) → Agrees f s l a → s ≡ Some x → f x ≡ true
+strict_passes f s l a x neither e = cc
+strict_passes f s l a x (fitting y z t) e = (let same : y ≡ x = cc in ap f (sym same)) ∙ t
+strict_passes f s l a x (wide y z t) e = cc
 
 pub nothing_reads : {X : Type 0} (f : X → Bool) (s l a : Option X) → Agrees f s l a → l ≡ None → a ≡ None
 nothing_reads f s l a neither e = refl
 nothing_reads f s l a (fitting y z t) e = cc
 nothing_reads f s l a (wide y z t) e = cc
 
-pub wide_reads : {X : Type 0} (f : X → Bool) (s l a : Option X) (y : X) → Agrees f s l a → s ≡ None → l ≡ Some y → (x : X) × (a ≡ Some x) × (f x ≡ false)
+-- what only the second reading reads is read with any number, and fails the test
+pub wide_reads : {X : Type 0} (f : X → Bool) (s l a : Option X) (y : X) → Agrees f s l a → s ≡ None → l ≡ Some y → IsSomeAnd a (λ x. f x ≡ false)
 wide_reads f s l a y neither d e = cc
 wide_reads f s l a y (fitting x z t) d e = cc
-wide_reads f s l a y (wide x z t) d e = (x, refl, t)
+wide_reads f s l a y (wide x z t) d e = t
 
 -- an error of the second reading
 pub refused_twice : {X : Type 0} (f : X → Bool) (s l a : Option X) (e : ParseError) → Agrees f s l a → Fails e l → e ≡ Syntax → a ≡ None

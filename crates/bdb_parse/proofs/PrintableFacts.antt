@@ -17,6 +17,6 @@ pub printable_from_read : (ts : List Token) (c : Command) → AreWellSpelled ts 
 printable_from_read ts c w h e =
     let read = strict_reads fits (command_by (number_in Refused) ts) (command_by (number_in Zero) ts) (command_of ts) c h e in
     record {
-      parts = parts_ok c ts (command_sound ts c read.0) w;
+      parts = parts_ok c ts (command_sound ts c read) w;
       filled = command_filled_of (number_in Refused) ts c e;
     }

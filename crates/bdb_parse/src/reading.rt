@@ -1,8 +1,7 @@
 // Reading a whole command.
-ghost use Rattle.std.specs.Prelude.{◌≡◌, true, false, Some, None, IfOk, IsErrOf};
+ghost use Rattle.std.specs.Prelude.{◌≡◌, true, false, Some, None, IfOk, IsErrOf, IsSomeAnd};
 ghost use Rattle.bdb_parse.specs.Reading.{command_of};
 ghost use Rattle.bdb_parse.specs.Fits.{fits};
-ghost use Rattle.bdb_syntax.specs.declared.command.Command.{Command};
 ghost use Rattle.bdb_parse.specs.Spelled.{AreWellSpelled};
 ghost use Rattle.bdb_syntax.specs.Filled.{IsFilled};
 ghost use Rattle.bdb_syntax.specs.Printable.{IsPrintable};
@@ -17,10 +16,11 @@ use std::alloc::Global;
 /// Reads the command that the tokens spell. `Syntax` comes exactly where they are outside the grammar, and `Number`
 /// exactly where they are in it and a number is below -9223372036854775808 or above 9223372036854775807.
 pub fn parse(alloc: Global, tokens: &[Token<'_>]) -> Result<Command, ParseError>
-    ensures ok { IfOk result (λ c. (command_of tokens.now ≡ Some c) × (fits c ≡ true)) }
+    ensures read { IfOk result (λ c. command_of tokens.now ≡ Some c) }
+    ensures fits { IfOk result (λ c. fits c ≡ true) }
     ensures syntax { IsErrOf result ParseError.Syntax → command_of tokens.now ≡ None }
-    ensures number { IsErrOf result ParseError.Number → (c : Command)
-        × (command_of tokens.now ≡ Some c) × (fits c ≡ false) }
+    ensures number { IsErrOf result ParseError.Number
+        → IsSomeAnd (command_of tokens.now) (λ c. fits c ≡ false) }
     ensures filled { IfOk result (λ c. IsFilled c) }
     ensures printable { AreWellSpelled tokens.now → IfOk result (λ c. IsPrintable c) }
 {

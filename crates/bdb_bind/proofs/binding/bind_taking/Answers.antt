@@ -14,6 +14,7 @@ returns-in_err-bound c =
     let short : text_line c.args.command.now ≡ None = search rules in
     let p = err_from_is_err_and c.from_residual-in_err-bound.result c.from_residual-in_err-bound.ensures.1 in
     rw (p.1, p.2) record {
-      ok = tt;
+      accepted = tt;
+      bound = tt;
       refused = λ named. change_refusal c.args.catalog.now c.args.command.now change short ∙ c.in_err-bound.ensures.checks named;
     }
