@@ -13,11 +13,11 @@ use std::marker::Model;
 
 /// A row of an answer, which contracts see as its values.
 #[derive(Drop)]
-struct AnswerRow {
+struct Row {
     values: List<Value>,
 }
 
-impl Model for AnswerRow {
+impl Model for Row {
     ghost use Rattle.bdb_queries.specs.Collected.{Values};
 
     ghost Value = { Values };
@@ -25,7 +25,7 @@ impl Model for AnswerRow {
     ghost view = { λ r. r.values };
 }
 
-impl PartialEq for AnswerRow {
+impl PartialEq for Row {
     ghost use Rattle.std.specs.Cmp.{partial_equiv_from_equiv, eq_by_cmp_equiv};
     ghost use Rattle.std.specs.Ordering.{eq_by_cmp};
     ghost use Rattle.bdb_base.specs.Order.{row_cmp};
@@ -40,14 +40,14 @@ impl PartialEq for AnswerRow {
     }
 }
 
-impl Eq for AnswerRow {
+impl Eq for Row {
     ghost use Rattle.std.specs.Cmp.{eq_by_cmp_equiv};
     ghost use Rattle.bdb_base.specs.OrderLemmas.{row_exact};
 
     ghost laws = { eq_by_cmp_equiv row_exact.total };
 }
 
-impl PartialOrd for AnswerRow {
+impl PartialOrd for Row {
     ghost use Rattle.std.specs.Prelude.{Some, refl};
     ghost use Rattle.std.specs.Cmp.{po};
     ghost use Rattle.bdb_base.specs.Order.{row_cmp};
@@ -62,7 +62,7 @@ impl PartialOrd for AnswerRow {
     }
 }
 
-impl Ord for AnswerRow {
+impl Ord for Row {
     ghost use Rattle.std.specs.Prelude.{refl};
     ghost use Rattle.bdb_base.specs.Order.{row_cmp};
     ghost use Rattle.bdb_base.specs.OrderLemmas.{row_exact};
@@ -83,7 +83,7 @@ impl Ord for AnswerRow {
 /// The rows found so far, in order, each once. Once there are more than there may be, it takes no more.
 #[derive(Drop)]
 pub struct Found {
-    rows: BTreeSet<AnswerRow>,
+    rows: BTreeSet<Row>,
     most: usize,
 }
 
@@ -120,7 +120,7 @@ impl Found {
         if !self.has_room() {
             return Ok(());
         }
-        put_row(&mut self.rows, AnswerRow { values })
+        put_row(&mut self.rows, Row { values })
     }
 
     /// The rows; none where there are too many.
@@ -133,7 +133,7 @@ impl Found {
         }
         let mut all = List::new(alloc);
         for row in rows {
-            let AnswerRow { values } = row;
+            let Row { values } = row;
             all.push(values)?;
         }
         Ok(Some(all))
@@ -141,7 +141,7 @@ impl Found {
 }
 
 /// Puts a row among others, unless it stands there.
-fn put_row(rows: &mut BTreeSet<AnswerRow>, row: AnswerRow) -> Result<(), AllocError>
+fn put_row(rows: &mut BTreeSet<Row>, row: Row) -> Result<(), AllocError>
     ensures { OnOk result (rows.new.keys ≡ put_in row_cmp rows.old.keys row) }
 {
     let Ok(_) = rows.insert(row) else {
