@@ -8,12 +8,12 @@ use Rattle.bdb_key.specs.Reading.{HasNoEnd, SplitsAtZero}
 use Rattle.bdb_shown.specs.Rows.{stands_alone}
 
 -- where bytes begin with a 0, the text that ends there is empty
-pub text_ends : (others left more : List ℕ) → SplitsAtZero (0 ∷ others) left more → (left ≡ []) × (others ≡ more)
-text_ends others [] more h = let e : 0 ∷ others ≡ 0 ∷ more = h.split in (refl, cc)
-text_ends others (c ∷ left) more h =
-    let e : 0 ∷ others ≡ c ∷ (left ++ 0 ∷ more) = h.split in
-    let z : 0 ≡ c = cc in
-    absurd (false≢true (subst (λ n. HasNoEnd (n ∷ left)) (sym z) h.none))
+pub text_ends : (b : ℕ) (bytes others left more : List ℕ) → bytes ≡ b ∷ others → b ≡ 0 → SplitsAtZero bytes left more → (left ≡ []) × (others ≡ more)
+text_ends b bytes others [] more is zero h = let e : bytes ≡ 0 ∷ more = h.split in (refl, cc)
+text_ends b bytes others (c ∷ left) more is zero h =
+    let e : bytes ≡ c ∷ (left ++ 0 ∷ more) = h.split in
+    let z : c ≡ 0 = cc in
+    absurd (false≢true (subst (λ n. HasNoEnd (n ∷ left)) z h.none))
 
 -- the text of bytes that begin with another byte begins with it
 pub text_goes_on : (b : ℕ) (others left more : List ℕ) → nat_eq b 0 ≡ false → SplitsAtZero (b ∷ others) left more → (after : List ℕ) × (left ≡ b ∷ after) × SplitsAtZero others after more
@@ -63,10 +63,14 @@ pub record IsLeft (rest out wanted more : List ℕ) : Type 0 where
   pub ends : SplitsAtZero rest left more
   pub written : out ++ flat_map quoted_byte left ≡ wanted
 
-pub left_end : (others out wanted more : List ℕ) → IsLeft (0 ∷ others) out wanted more → (out ≡ wanted) × (others ≡ more)
-left_end others out wanted more h =
-    let e = text_ends others h.left more h.ends in
-    (sym (append-nil out) ∙ ap (λ (l : List ℕ). out ++ flat_map quoted_byte l) (sym e.0) ∙ h.written, e.1)
+-- where bytes begin with a 0, what was written is what is wanted
+pub left_end : (b : ℕ) (rest others out wanted more : List ℕ) → rest ≡ b ∷ others → b ≡ 0 → IsLeft rest out wanted more → out ≡ wanted
+left_end b rest others out wanted more is zero h =
+    sym (append-nil out) ∙ ap (λ (l : List ℕ). out ++ flat_map quoted_byte l) (sym (text_ends b rest others h.left more is zero h.ends).0) ∙ h.written
+
+-- and the bytes behind it are left
+pub left_behind : (b : ℕ) (rest others out wanted more : List ℕ) → rest ≡ b ∷ others → b ≡ 0 → IsLeft rest out wanted more → others ≡ more
+left_behind b rest others out wanted more is zero h = (text_ends b rest others h.left more is zero h.ends).1
 
 pub left_none : (out wanted more : List ℕ) → IsLeft [] out wanted more → ⊥
 left_none out wanted more h = no_text h.left more h.ends

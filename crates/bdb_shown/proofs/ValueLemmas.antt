@@ -15,10 +15,8 @@ use Rattle.bdb_render.specs.Replies.{row_text}
 
 -- an integer that bytes begin with is the value that they begin with
 pub int_leads : (n : ℤ) (bytes rest : List ℕ) → Leads (FitsSigned w64) int_bytes bytes n rest → (v : Value) (more : List ℕ) → Leads IsPlainValue value_bytes bytes v more
-    → (int_text n ≡ value_text v) × (rest ≡ more)
-int_leads n bytes rest h v more l =
-    let e = value_form (Int n) v rest more h.fits l.fits (sym h.split ∙ l.split) in
-    (ap value_text e.0, e.1)
+    → (Int n ≡ v) × (rest ≡ more)
+int_leads n bytes rest h v more l = value_form (Int n) v rest more h.fits l.fits (sym h.split ∙ l.split)
 
 -- the integer is behind nine bytes
 pub int_shorter : (n : ℤ) (bytes rest : List ℕ) → Leads (FitsSigned w64) int_bytes bytes n rest → length rest ≤ length bytes - 1
@@ -28,11 +26,11 @@ int_shorter n bytes rest h =
     omega (arith, e, f)
 
 -- a value that bytes begin with which begin with no integer is a text, behind a byte
-pub text_leads : (bytes : List ℕ) → NoneLeads (FitsSigned w64) int_bytes bytes → (v : Value) (more : List ℕ) → Leads IsPlainValue value_bytes bytes v more
-    → (text : List ℕ) × (quoted text ≡ value_text v) × SplitsAtZero (drop 1 bytes) text more
-text_leads bytes none (Int m) more l = absurd (none m more (record { fits = l.fits; split = l.split }))
-text_leads bytes none (Text text) more l =
-    (text, refl, record { none = no_end text (printing text l.fits); split = ap (drop 1) l.split ∙ append_assoc text (0 ∷ []) more })
+pub text_leads : (bytes rest : List ℕ) → NoneLeads (FitsSigned w64) int_bytes bytes → rest ≡ drop 1 bytes → (v : Value) (more : List ℕ) → Leads IsPlainValue value_bytes bytes v more
+    → (text : List ℕ) × (quoted text ≡ value_text v) × SplitsAtZero rest text more
+text_leads bytes rest none is (Int m) more l = absurd (none m more (record { fits = l.fits; split = l.split }))
+text_leads bytes rest none is (Text text) more l =
+    (text, refl, record { none = no_end text (printing text l.fits); split = is ∙ ap (drop 1) l.split ∙ append_assoc text (0 ∷ []) more })
 
 -- ---- values one after the other
 
@@ -54,31 +52,32 @@ first_leads : (bytes : List ℕ) (v : Value) (vals : List Value) → Reads ArePl
 first_leads bytes v vals h = record { fits = h.fits.0; split = sym h.spelled }
 
 -- behind the first value
-pub left_first : (bytes rest old out : List ℕ) → ((v : Value) (more : List ℕ) → Leads IsPlainValue value_bytes bytes v more → (out ≡ old ++ value_text v) × (rest ≡ more))
+pub left_first : (bytes rest old out : List ℕ) → ((v : Value) (more : List ℕ) → Leads IsPlainValue value_bytes bytes v more → out ≡ old ++ value_text v)
+    → ((v : Value) (more : List ℕ) → Leads IsPlainValue value_bytes bytes v more → rest ≡ more)
     → (v : Value) (vals : List Value) → Reads ArePlain values_bytes bytes (v ∷ vals) → AreLeft rest out (old ++ row_text (v ∷ vals))
-left_first bytes rest old out h v vals r =
-    let e = h v (values_bytes vals) (first_leads bytes v vals r) in
+left_first bytes rest old out text behind v vals r =
+    let first = first_leads bytes v vals r in
     record {
       left = vals;
-      reads = record { fits = r.fits.1; spelled = sym e.1 };
-      written = ap (λ l. l ++ flat_map behind_another vals) e.0 ∙ append_assoc old (value_text v) (flat_map behind_another vals)
+      reads = record { fits = r.fits.1; spelled = sym (behind v (values_bytes vals) first) };
+      written = ap (λ l. l ++ flat_map behind_another vals) (text v (values_bytes vals) first) ∙ append_assoc old (value_text v) (flat_map behind_another vals)
           ∙ ap (λ l. old ++ (value_text v ++ l)) (sym (separated_values vals));
     }
 
 -- behind one more
 pub left_more : (bytes rest old out wanted : List ℕ) → 0 < length bytes
-    → ((v : Value) (more : List ℕ) → Leads IsPlainValue value_bytes bytes v more → (out ≡ (old ++ codes ", ") ++ value_text v) × (rest ≡ more))
-    → AreLeft bytes old wanted → AreLeft rest out wanted
-left_more bytes rest old out wanted some h l = by l.left l.reads l.written
+    → ((v : Value) (more : List ℕ) → Leads IsPlainValue value_bytes bytes v more → out ≡ (old ++ codes ", ") ++ value_text v)
+    → ((v : Value) (more : List ℕ) → Leads IsPlainValue value_bytes bytes v more → rest ≡ more) → AreLeft bytes old wanted → AreLeft rest out wanted
+left_more bytes rest old out wanted some text behind l = by l.left l.reads l.written
   where
     by : (left : List Value) → Reads ArePlain values_bytes bytes left → old ++ flat_map behind_another left ≡ wanted → AreLeft rest out wanted
     by [] r w = let e : 0 ≡ length bytes = ap length r.spelled in absurd (omega (arith, e, some))
     by (v ∷ vals) r w =
-        let e = h v (values_bytes vals) (first_leads bytes v vals r) in
+        let first = first_leads bytes v vals r in
         record {
           left = vals;
-          reads = record { fits = r.fits.1; spelled = sym e.1 };
-          written = ap (λ l. l ++ flat_map behind_another vals) e.0
+          reads = record { fits = r.fits.1; spelled = sym (behind v (values_bytes vals) first) };
+          written = ap (λ l. l ++ flat_map behind_another vals) (text v (values_bytes vals) first)
               ∙ append_assoc (old ++ codes ", ") (value_text v) (flat_map behind_another vals)
               ∙ append_assoc old (codes ", ") (value_text v ++ flat_map behind_another vals)
               ∙ ap (λ l. old ++ l) (sym (append_assoc (codes ", ") (value_text v) (flat_map behind_another vals)))

@@ -29,9 +29,11 @@ pub fn append_values(out: &mut Vec<u8>, bytes: &[u8]) -> Result<(), AllocError>
 
 // Appends the value at the front of these bytes, and gives the bytes behind it.
 fn append_value<'a>(out: &mut Vec<u8>, bytes: &'a [u8]) -> Result<&'a [u8], AllocError>
-    ensures value { IfOk result (λ rest. (v : Value) (more : List ℕ)
+    ensures written { OnOk result ((v : Value) (more : List ℕ)
         → Leads IsPlainValue value_bytes bytes.now v more
-        → (out.new.items ≡ out.old.items ++ value_text v) × (rest.now ≡ more)) }
+        → out.new.items ≡ out.old.items ++ value_text v) }
+    ensures behind { IfOk result (λ rest. (v : Value) (more : List ℕ)
+        → Leads IsPlainValue value_bytes bytes.now v more → rest.now ≡ more) }
     ensures shorter { IfOk result (λ rest. length rest.now ≤ length bytes.now - 1) }
 {
     match int_of(bytes) {
@@ -58,8 +60,10 @@ fn behind_mark(bytes: &[u8]) -> &[u8]
 
 // Appends the text that ends at the first 0 of these bytes in quotes, and gives the bytes behind that.
 fn append_text<'a>(out: &mut Vec<u8>, bytes: &'a [u8]) -> Result<&'a [u8], AllocError>
-    ensures text { IfOk result (λ rest. (text more : List ℕ) → SplitsAtZero bytes.now text more
-        → (out.new.items ≡ out.old.items ++ quoted text) × (rest.now ≡ more)) }
+    ensures written { OnOk result ((text more : List ℕ) → SplitsAtZero bytes.now text more
+        → out.new.items ≡ out.old.items ++ quoted text) }
+    ensures behind { IfOk result (λ rest. (text more : List ℕ) → SplitsAtZero bytes.now text more
+        → rest.now ≡ more) }
     ensures shorter { IfOk result (λ rest. length rest.now ≤ length bytes.now) }
 {
     out.push(b'\'')?;
@@ -70,8 +74,10 @@ fn append_text<'a>(out: &mut Vec<u8>, bytes: &'a [u8]) -> Result<&'a [u8], Alloc
 
 // Appends the bytes before the first 0, each quote among them doubled, and gives the bytes behind it.
 fn append_doubled<'a>(out: &mut Vec<u8>, bytes: &'a [u8]) -> Result<&'a [u8], AllocError>
-    ensures text { IfOk result (λ rest. (text more : List ℕ) → SplitsAtZero bytes.now text more
-        → (out.new.items ≡ out.old.items ++ flat_map quoted_byte text) × (rest.now ≡ more)) }
+    ensures written { OnOk result ((text more : List ℕ) → SplitsAtZero bytes.now text more
+        → out.new.items ≡ out.old.items ++ flat_map quoted_byte text) }
+    ensures behind { IfOk result (λ rest. (text more : List ℕ) → SplitsAtZero bytes.now text more
+        → rest.now ≡ more) }
     ensures shorter { IfOk result (λ rest. length rest.now ≤ length bytes.now) }
 {
     let mut rest = bytes;

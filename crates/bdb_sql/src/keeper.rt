@@ -342,10 +342,10 @@ impl<S: Alter> Keeper for SqlKeeper<S> {
         ensures commit { IsCommit self.old.seen self.new.seen result KeepError.Fault }
 
         ensures ends { Commits self.old self.new result }
+        ensures conn { MatchesFile S.Store self.old → OnErr result (IsSome self.new.conn) }
         ensures crash { MatchesFile S.Store self.old
             → OnErr result
-            (IsSome self.new.conn × MayStore S.Store self.new.conn self.old.seen.last
-            self.old.seen.kept) }
+            (MayStore S.Store self.new.conn self.old.seen.last self.old.seen.kept) }
         ensures tied { MatchesFile S.Store self.old → OnOk result (MatchesFile S.Store self.new) }
     {
         if let Some(error) = self.refusal {
@@ -368,7 +368,8 @@ impl<S: Alter> Keeper for SqlKeeper<S> {
     fn undo(&mut self)
         ensures undone { IsUndo self.old.seen self.new.seen }
 
-        ensures same { (self.new.refusal ≡ self.old.refusal) × (self.new.conn ≡ self.old.conn) }
+        ensures refusal { self.new.refusal ≡ self.old.refusal }
+        ensures conn { self.new.conn ≡ self.old.conn }
         ensures filed { MatchesFile S.Store self.old → MatchesFile S.Store self.new }
     {
         self.ledger.undo();
@@ -381,7 +382,8 @@ fn write_to<S: Alter>(
     conn: &mut Option<Connection<S>>,
     store: &Store,
 ) -> Result<(), KeepError>
-    ensures file { OnOk result (IsSome conn.old × IsSome conn.new) }
+    ensures file { OnOk result (IsSome conn.old) }
+    ensures conn { OnOk result (IsSome conn.new) }
     ensures stays { IsSome conn.old → IsSome conn.new }
     ensures tied { StoresRows S.Store conn.old store.now.last
         → OnOk result (StoresRows S.Store conn.new store.now.kept) }

@@ -47,8 +47,10 @@ struct Pair {
 /// Runs the commands that are left over the keeper that fails, and those that were done then over the other one. Tells the
 /// status and how many were done; an error where the two don't agree.
 fn go_on(alloc: Global, rest: &[u8], pair: &mut Pair) -> Result<(u8, usize), Fail>
-    requires idle { (pair.old.keeper.seen.running ≡ false) × (pair.old.twin.seen.running ≡ false) }
-    ensures idle { (pair.new.keeper.seen.running ≡ false) × (pair.new.twin.seen.running ≡ false) }
+    requires idle_keeper { pair.old.keeper.seen.running ≡ false }
+    requires idle_twin { pair.old.twin.seen.running ≡ false }
+    ensures idle_keeper { pair.new.keeper.seen.running ≡ false }
+    ensures idle_twin { pair.new.twin.seen.running ≡ false }
 {
     let (status, out) = told(alloc, rest, &mut pair.keeper)?;
     let done = replies_in(out.bytes());
@@ -68,8 +70,10 @@ fn go_on(alloc: Global, rest: &[u8], pair: &mut Pair) -> Result<(u8, usize), Fai
 
 /// Carries out a script, from each fault on what is left of it. Tells the last status and how many faults there were.
 fn carry_out(alloc: Global, script: &[u8], pair: &mut Pair) -> Result<(u8, u32), Fail>
-    requires idle { (pair.old.keeper.seen.running ≡ false) × (pair.old.twin.seen.running ≡ false) }
-    ensures idle { (pair.new.keeper.seen.running ≡ false) × (pair.new.twin.seen.running ≡ false) }
+    requires idle_keeper { pair.old.keeper.seen.running ≡ false }
+    requires idle_twin { pair.old.twin.seen.running ≡ false }
+    ensures idle_keeper { pair.new.keeper.seen.running ≡ false }
+    ensures idle_twin { pair.new.twin.seen.running ≡ false }
 {
     let mut rest = script;
     for faults in 0..FAULTS + 1 {

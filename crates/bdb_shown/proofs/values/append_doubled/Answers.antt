@@ -2,17 +2,18 @@ use Rattle.std.proofs.Common.{◌≡◌, ◌∙◌, ℕ, suc, ◌+◌, ◌-◌, 
 use Rattle.std.specs.List.{flat_map}
 use Rattle.std.proofs.lemmas.List.{take_rest}
 use Rattle.bdb_base.specs.Texts.{quoted_byte}
-use Rattle.bdb_shown.proofs.TextLemmas.{IsLeft, left_byte, left_end, left_run, run_more}
+use Rattle.bdb_shown.proofs.TextLemmas.{IsLeft, left_behind, left_byte, left_end, left_run, run_more}
 use Rattle.bdb_shown.proofs.values.append_doubled.Goals as goal
 
-pub returns-then-first-eq0-clause-text : goal.returns-then-first-eq0-clause-text
-returns-then-first-eq0-clause-text c text more h =
-    let b = c.in-Some.found.0 in
-    let others = c.in-Some.found.1.now in
-    let is : c.loop-found.rest.now ≡ b ∷ others = search rules in
-    let zero : b ≡ 0 = search rules in
-    left_end others c.loop-found.out.items (c.args.out.now.items ++ flat_map quoted_byte text) more
-    (subst (λ (r : List ℕ). IsLeft r c.loop-found.out.items (c.args.out.now.items ++ flat_map quoted_byte text) more) (is ∙ ap (λ (n : ℕ). n ∷ others) zero) (c.loop-found.invariant.text text more h))
+pub returns-then-first-eq0-clause-written : goal.returns-then-first-eq0-clause-written
+returns-then-first-eq0-clause-written c text more h =
+    left_end c.in-Some.found.0 c.loop-found.rest.now c.in-Some.found.1.now c.loop-found.out.items (c.args.out.now.items ++ flat_map quoted_byte text) more
+    c.in-Some.ensures (search rules) (c.loop-found.invariant.text text more h)
+
+pub returns-then-first-eq0-clause-behind : goal.returns-then-first-eq0-clause-behind
+returns-then-first-eq0-clause-behind c text more h =
+    left_behind c.in-Some.found.0 c.loop-found.rest.now c.in-Some.found.1.now c.loop-found.out.items (c.args.out.now.items ++ flat_map quoted_byte text) more
+    c.in-Some.ensures (search rules) (c.loop-found.invariant.text text more h)
 
 pub loop-found-preserved-then-first-eq39 : goal.loop-found-preserved-then-first-eq39
 loop-found-preserved-then-first-eq39 c =

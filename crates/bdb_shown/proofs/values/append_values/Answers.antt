@@ -5,7 +5,7 @@ use Rattle.bdb_shown.proofs.ValueLemmas.{left_all, left_first, left_more}
 use Rattle.bdb_shown.proofs.values.append_values.Goals as goal
 
 pub loop-rest-init : goal.loop-rest-init
-loop-rest-init c v vals r = left_first c.args.bytes.now c.in_ok-rest.rest.now c.args.out.now.items c.append_value.new.out.items c.in_ok-rest.ensures.value v vals r
+loop-rest-init c v vals r = left_first c.args.bytes.now c.in_ok-rest.rest.now c.args.out.now.items c.append_value.new.out.items c.in_ok-rest.ensures.written c.in_ok-rest.ensures.behind v vals r
 
 pub loop-rest-preserved : goal.loop-rest-preserved
 loop-rest-preserved c v vals r =
@@ -13,7 +13,7 @@ loop-rest-preserved c v vals r =
     let some : 0 < length c.loop-rest.rest.now = search rules in
     let apart : c.extend_from_slice.new.self.items ≡ old ++ codes ", " = search rules in
     left_more c.loop-rest.rest.now c.in_ok-rest-2.rest.now old c.append_value-in-loop-rest.new.out.items (c.args.out.now.items ++ row_text (v ∷ vals)) some
-    (λ w more l. let e = c.in_ok-rest-2.ensures.value w more l in (e.0 ∙ ap (λ (x : List ℕ). x ++ value_text w) apart, e.1)) (c.loop-rest.invariant v vals r)
+    (λ w more l. c.in_ok-rest-2.ensures.written w more l ∙ ap (λ (x : List ℕ). x ++ value_text w) apart) c.in_ok-rest-2.ensures.behind (c.loop-rest.invariant v vals r)
 
 pub returns : goal.returns
 returns c v vals r =
