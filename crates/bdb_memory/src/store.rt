@@ -16,7 +16,7 @@ use bdb_keep::{KeyEnd, Span};
 use std::alloc::{AllocError, Global};
 use std::marker::Model;
 
-/// PlacedRows in memory that remember how they were when they were last committed. The room to undo a change is taken before
+/// Rows in memory that remember how they were when they were last committed. The room to undo a change is taken before
 /// the change, so neither to commit the changes nor to undo them takes memory. A keeper is made of one.
 #[derive(Drop)]
 pub struct Store {
