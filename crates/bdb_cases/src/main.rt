@@ -4,7 +4,7 @@
 
 mod told;
 
-use crate::told::{Reading, is_told};
+use crate::told::{Portions, is_told};
 use std::process::ExitCode;
 use std::{fs, io};
 
@@ -64,14 +64,14 @@ fn tell(rt: &HostRuntime, name: &str) -> io::Result<bool> {
 /// Whether a case is told what it has: in steps of each size, and in two parts that meet at any place.
 fn is_told_however_read(rt: &HostRuntime, setup: &str, lines: &str) -> io::Result<bool> {
     for step in STEPS {
-        if !is_told(rt, setup, lines, Reading::Steps(step))? {
+        if !is_told(rt, setup, lines, Portions::Steps(step))? {
             return Ok(false);
         }
     }
     // No script of the case is longer than these lines and those before.
     let cuts = setup.len().saturating_add(lines.len());
     for cut in 0..cuts {
-        if !is_told(rt, setup, lines, Reading::Cut(cut))? {
+        if !is_told(rt, setup, lines, Portions::Cut(cut))? {
             return Ok(false);
         }
     }

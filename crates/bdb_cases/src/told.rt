@@ -11,7 +11,7 @@ use std::io::{Read, Write};
 
 /// How a script is read.
 #[derive(Clone, Copy, Drop)]
-pub(crate) enum Reading {
+pub(crate) enum Portions {
     /// So many bytes at a time.
     Steps(usize),
     /// In two parts, the first one of so many bytes.
@@ -54,7 +54,7 @@ pub(crate) fn is_told(
     rt: &HostRuntime,
     setup: &str,
     lines: &str,
-    reading: Reading,
+    reading: Portions,
 ) -> io::Result<bool> {
     let mut told = Told::new(rt.alloc());
     told.take_words(rt.alloc(), "run")?;
@@ -137,7 +137,7 @@ impl Told {
         &self,
         rt: &HostRuntime,
         end: &str,
-        reading: Reading,
+        reading: Portions,
         keeper: &mut QuietKeeper,
     ) -> io::Result<bool>
         requires idle { keeper.old.running ≡ false }
@@ -148,12 +148,12 @@ impl Told {
             return self.is_met_over(rt, end, &mut NoSource::new(), keeper);
         }
         match reading {
-            Reading::Steps(step) => {
+            Portions::Steps(step) => {
                 let text = Vec::from_slice(rt.alloc(), script)?;
                 let mut source = MemSource::new(text, step.max(1), List::new(rt.alloc()));
                 self.is_met_over(rt, end, &mut source, keeper)
             }
-            Reading::Cut(cut) => {
+            Portions::Cut(cut) => {
                 let (first, rest) = script.split_at(cut.min(script.len()));
                 let mut source = ReadSource::new(first.chain(rest));
                 self.is_met_over(rt, end, &mut source, keeper)

@@ -25,7 +25,7 @@ use Rattle.bdb_session.specs.Machine.{accepts, next_state}
 use Rattle.bdb_session.specs.Outcome.{State}
 use Rattle.bdb_session.specs.Runs.{accepts_all}
 use Rattle.bdb_session.specs.declared.batch.BatchReply.{BatchReply}
-use Rattle.bdb_session.specs.declared.event.Event as asked
+use Rattle.bdb_session.specs.declared.event.ScriptEvent as asked
 use Rattle.bdb_stream.specs.declared.error.RunError.{RunError}
 use Rattle.bdb_stream.specs.declared.error.RunError.TheVariants.{Source, Sink, Keeper, Memory, Large}
 use Rattle.bdb_crowd.specs.Asked.{Asked, Point, commits_by, is_fine, next_point, piece, reply_of, unfinished}
@@ -84,7 +84,7 @@ fewer false m n h = omega arith
 one_and : (n m : ℕ) → n ≤ m + 1 → n ≤ suc m
 one_and n m h = omega (arith, h)
 
-before_few : (s : State) (es : List asked.Event) → before_refused s es ≤ length es
+before_few : (s : State) (es : List asked.ScriptEvent) → before_refused s es ≤ length es
 before_few s [] = omega arith
 before_few s (e ∷ es) = one_and (before_refused s (e ∷ es)) (length es) (fewer (accepts s e) (before_refused (next_state s e) es) (length es) (before_few (next_state s e) es))
 

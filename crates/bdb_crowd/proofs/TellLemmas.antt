@@ -23,7 +23,7 @@ use Rattle.bdb_session.specs.Machine.{next_state}
 use Rattle.bdb_session.specs.Outcome.{State}
 use Rattle.bdb_session.specs.Runs.{accepts_all}
 use Rattle.bdb_session.specs.Runs as runs
-use Rattle.bdb_session.specs.declared.event.Event.{Event}
+use Rattle.bdb_session.specs.declared.event.ScriptEvent.{ScriptEvent}
 use Rattle.bdb_session.proofs.ErrorBatches.{AreTold, batch_told}
 use Rattle.bdb_session.proofs.ErrorTexts.{IsFlat, are_digits, decimal_digits, decimal_flat, digits_tell_none, flat_append, is_quiet, lines_before, quiet_are_flat}
 use Rattle.bdb_session.proofs.ErrorValid.{bases_stay_valid}
@@ -206,11 +206,11 @@ act_good m G t s (Batch q) v = t.next s q v
 
 -- ---- the batches of the belief machine
 
-after_valid : (s : State) (es : List Event) → HasValidBase s → HasValidBase (runs.after s es)
+after_valid : (s : State) (es : List ScriptEvent) → HasValidBase s → HasValidBase (runs.after s es)
 after_valid s [] v = v
 after_valid s (e ∷ es) v = after_valid (next_state s e) es (bases_stay_valid s e v)
 
-batch_valid : (s : State) (es : List Event) → HasValidBase s → HasValidBase (batch_state s es)
+batch_valid : (s : State) (es : List ScriptEvent) → HasValidBase s → HasValidBase (batch_state s es)
 batch_valid s es v = cond_both (accepts_all s es) (runs.after s es) s HasValidBase (λ e. after_valid s es v) (λ e. v)
 
 session_tells : Telling session_batches HasValidBase

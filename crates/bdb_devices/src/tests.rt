@@ -45,6 +45,9 @@ const REPLIES: &[u8] = b"ok\nok\nok\nok\nok\nok 1\nok 1\nok 1\nok 1\nok 1\nok 1\
 /// How many commands there are.
 const COMMANDS: usize = 13;
 
+/// What is told of a rest that holds something.
+const UNFINISHED: &[u8] = b"error unfinished\n";
+
 /// How many bytes of replies a sink takes.
 const ROOM: usize = 2_000_000;
 

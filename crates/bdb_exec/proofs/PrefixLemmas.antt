@@ -1,10 +1,10 @@
 -- Values that are asked for, one column after the other.
-use Rattle.std.proofs.Common.{◌≡◌, ◌∙◌, ℕ, zero, suc, ◌+◌, ◌-◌, ◌≤◌, ◌<◌, List, [], Option, Some, None, length, ap, sym, arith}
+use Rattle.std.proofs.Common.{◌≡◌, ◌∙◌, ℕ, zero, suc, ◌+◌, ◌-◌, ◌≤◌, ◌<◌, Bool, List, [], ◌∷◌, Option, Some, None, length, ap, sym, subst, arith}
 use Rattle.bdb_base.specs.declared.kinds.Value.{Value}
 use Rattle.bdb_base.specs.declared.tuple.Tuple.{Tuple}
 use Rattle.bdb_plan.specs.declared.step.Step.{Step}
 use Rattle.bdb_exec.specs.Keys.{value_behind, values_behind}
-use Rattle.bdb_tables.specs.Prefixes.{led_by}
+use Rattle.bdb_tables.specs.Prefixes.{HasPutValues, led_by}
 
 module _ (slots : List (Option Tuple)) (item : ℕ) (behind : List Step) where
   -- no more values are asked for than there are columns
@@ -43,3 +43,9 @@ module _ (slots : List (Option Tuple)) (item : ℕ) (behind : List Step) where
 
       next : (col : ℕ) → suc col ≡ col + 1
       next col = omega arith
+
+  -- bytes that have this column's value and those behind it have all from it on
+  pub put_from : (all : Bool) (now new : List ℕ) (n col : ℕ) (v : Value) → col < n → Some v ≡ value_behind slots item behind col
+      → HasPutValues all now new (v ∷ values_behind slots item behind (n - (col + 1)) (col + 1))
+      → HasPutValues all now new (values_behind slots item behind (n - col) col)
+  put_from all now new n col v lt e h = subst (λ (vs : List Value). HasPutValues all now new vs) (sym (from_column n col (Some v) lt e)) h

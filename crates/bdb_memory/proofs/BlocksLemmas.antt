@@ -1,10 +1,11 @@
 -- Lemmas on entries in blocks.
 use Rattle.std.proofs.Common.{◌≡◌, ℕ, zero, suc, ◌<◌, ◌≤◌, ◌+◌, ◌-◌, Bool, true, false, cond, map, length-drop, length-take-le, take-take, drop-drop, take-add, List, [], ◌∷◌, ◌++◌, length, take, drop, set, get_or, Option, Some, None, Less, Equal, Greater, refl, sym, ap, ◌∙◌, append_assoc, append-nil, length-set, take-append-drop, take-suc, drop-cons, take_all, drop_of_length-le, subst, arith}
-use Rattle.std.specs.Prelude.{is_some, filter}
+use Rattle.std.specs.Prelude.{is_some, filter, Result, Ok, Err, IfOk, IfErr}
 use Rattle.std.specs.List.{AllWithin}
 use Rattle.std.specs.List.Sorted.{IsPartitionPoint, IsPartitionedBy}
 use Rattle.std.specs.Ordering.{is_le, is_lt, is_eq}
 use Rattle.std.proofs.lemmas.Cmp.{nat_list_cmp_total, eq_by_cmp_equiv}
+use Rattle.std.proofs.lemmas.Result.{IfOk-at_ok, IfErr-at_err}
 use Rattle.bdb_keep.specs.Tables.{bytes_cmp}
 use Rattle.bdb_memory.specs.Entries.{Entries, place_at, AreBelow, AreAbove, NoneBelow, IsAscending}
 use Rattle.bdb_memory.specs.Blocks.{joined, before, after, HasEntry, HaveEntries, AreSorted, IsBoundary, IsThere, entry_at, StandsAt, BelongsHere, starts_within, without_empty, has_any, cut}
@@ -137,6 +138,15 @@ place_at-stands bs q i j h = ap (λ es. place_at es q) (joined-stands bs q i j h
 
 pub place_at-gap : (bs : List Entries) (q : List ℕ) (i j : ℕ) → BelongsHere bs q i j → place_at (joined bs) q ≡ None
 place_at-gap bs q i j h = ap (λ es. place_at es q) (split bs i j) ∙ place_at-below q (before bs i j) (after bs i j) h.below ∙ place_at-above q (after bs i j) h.above
+
+-- what a search of blocks found stands in them, and the gap that it found is there
+pub found-stands : (bs seen : List Entries) (q : List ℕ) (found : Result (ℕ × ℕ) (ℕ × ℕ)) (at : ℕ × ℕ) → seen ≡ bs → found ≡ Ok at
+    → IfOk found (λ x. StandsAt seen q x.0 x.1) → StandsAt bs q at.0 at.1
+found-stands bs seen q found at same is h = subst (λ cs. StandsAt cs q at.0 at.1) same (IfOk-at_ok (λ x. StandsAt seen q x.0 x.1) is h)
+
+pub found-gap : (bs seen : List Entries) (q : List ℕ) (found : Result (ℕ × ℕ) (ℕ × ℕ)) (at : ℕ × ℕ) → seen ≡ bs → found ≡ Err at
+    → IfErr found (λ x. BelongsHere seen q x.0 x.1) → BelongsHere bs q at.0 at.1
+found-gap bs seen q found at same is h = subst (λ cs. BelongsHere cs q at.0 at.1) same (IfErr-at_err (λ x. BelongsHere seen q x.0 x.1) is h)
 
 has_entry : (b : Entries) → 0 < length b → HasEntry b
 has_entry [] h = absurd (omega arith)

@@ -1,6 +1,6 @@
 -- Lemmas on entries on shelves.
 use Rattle.std.proofs.Common.{◌≡◌, ℕ, zero, suc, ◌<◌, ◌≤◌, ◌-◌, Bool, true, false, cond, List, [], ◌∷◌, ◌++◌, length, take, drop, set, get_or, Option, Some, None, Less, refl, sym, ap, ◌∙◌, append_assoc, append-nil, subst, arith, inl, inr, ◌⊎◌}
-use Rattle.std.specs.Prelude.{IsTrue, is_some, not, nat_eq}
+use Rattle.std.specs.Prelude.{IsTrue, IfSome, is_some, not, nat_eq}
 use Rattle.std.specs.Ordering.{is_le, is_lt, is_eq, eq_by_cmp}
 use Rattle.std.specs.List.Sorted.{IsPartitionPoint}
 use Rattle.std.proofs.lemmas.Cmp.{nat_list_cmp_total, tied_itself}
@@ -152,6 +152,15 @@ changed-added bs es q r i j g e =
     subst (λ w. IsChangedAt (joined bs) es q w (Some r)) (sym (place_at-gap bs q i j g))
     (record { front = before bs i j; back = after bs i j; was = split bs i j; is = e; below = g.below; above = g.above })
 
+-- the same of the entries that blocks hold: a place that belongs in a gap is none of theirs, and where it is added they are changed there
+pub absent-in_gap : (es : Entries) (bs : List Entries) (q : List ℕ) (i j : ℕ) → joined bs ≡ es → BelongsHere bs q i j → place_at es q ≡ None
+absent-in_gap es bs q i j are g = ap (λ xs. place_at xs q) (sym are) ∙ place_at-gap bs q i j g
+
+pub added-in_gap : (es fs : Entries) (bs : List Entries) (q : List ℕ) (r : Option (List ℕ)) (i j : ℕ) → joined bs ≡ es → BelongsHere bs q i j
+    → fs ≡ before bs i j ++ (q, r) ∷ after bs i j → IsChangedAt es fs q (place_at es q) (Some r)
+added-in_gap es fs bs q r i j are g e =
+    subst (λ xs. IsChangedAt xs fs q (place_at xs q) (Some r)) are (changed-added bs fs q r i j g e)
+
 pub changed-taken : (bs : List Entries) (es : Entries) (q : List ℕ) (i j : ℕ) → AreSorted bs → StandsAt bs q i j → es ≡ before bs i j ++ after bs i (suc j) → IsChangedAt (joined bs) es q (place_at (joined bs) q) None
 changed-taken bs es q i j s h e =
     subst (λ w. IsChangedAt (joined bs) es q w None) (sym (place_at-stands bs q i j h)) (record {
@@ -167,6 +176,14 @@ pub changed-nothing : (bs : List Entries) (q : List ℕ) (i j : ℕ) → Belongs
 changed-nothing bs q i j g =
     subst (λ w. IsChangedAt (joined bs) (joined bs) q w None) (sym (place_at-gap bs q i j g))
     (record { front = before bs i j; back = after bs i j; was = split bs i j; is = split bs i j; below = g.below; above = g.above })
+
+-- ---- what is told of an answer
+-- what holds of an answer that is there, and of one that isn't
+pub told-some : {A : Type 0} (P : A → Type 0) (answer : Option A) (x : A) → answer ≡ Some x → P x → IfSome answer P
+told-some P answer x is h = subst (λ o. IfSome o P) (sym is) h
+
+pub told-none : {A : Type 0} (P : A → Type 0) (answer : Option A) → answer ≡ None → IfSome answer P
+told-none P answer is = subst (λ o. IfSome o P) (sym is) tt
 
 -- ---- the first row from a place on
 pub passed-below : (q : List ℕ) (xs : Entries) → AreBelow q xs → NoRowFrom q xs

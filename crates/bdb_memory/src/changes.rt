@@ -7,7 +7,7 @@ ghost use Rattle.bdb_keep.specs.Tables.{IsPlace, set_at};
 
 use crate::place::Place;
 use crate::row::Row;
-use crate::rows::Rows;
+use crate::rows::PlacedRows;
 use crate::words::Probe;
 use std::alloc::{AllocError, Global};
 
@@ -20,7 +20,7 @@ pub struct PlaceChange {
 
 /// Puts what stands at a place, and answers what stood there. The answer is the new row where there is no such place.
 pub fn swap_row(
-    rows: &mut Rows,
+    rows: &mut PlacedRows,
     probe: &Probe<'_>,
     row: Option<Row>,
 ) -> Result<Option<Row>, Option<Row>>
@@ -38,7 +38,11 @@ pub fn swap_row(
 }
 
 /// Puts a row at a place, which may be new, and answers the row that stood there.
-pub fn insert_row(rows: &mut Rows, probe: &Probe<'_>, row: &[u8]) -> Result<Option<Row>, AllocError>
+pub fn insert_row(
+    rows: &mut PlacedRows,
+    probe: &Probe<'_>,
+    row: &[u8],
+) -> Result<Option<Row>, AllocError>
     ensures before { IfOk result (λ before. row_of (place_at rows.old probe.now) ≡ before) }
     ensures rows { OnOk result
         (rows_of rows.new ≡ set_at (rows_of rows.old) probe.now (Some row.now)) }
@@ -57,7 +61,7 @@ pub fn insert_row(rows: &mut Rows, probe: &Probe<'_>, row: &[u8]) -> Result<Opti
 }
 
 /// Empties a place, and answers the row that stood there.
-pub fn empty_place(rows: &mut Rows, probe: &Probe<'_>) -> Option<Row>
+pub fn empty_place(rows: &mut PlacedRows, probe: &Probe<'_>) -> Option<Row>
     ensures row { result ≡ map.get (rows_of rows.old) probe.now }
     ensures rows { rows_of rows.new ≡ map.remove (rows_of rows.old) probe.now }
     ensures here { OnSome result (IsSome (place_at rows.new probe.now)) }
@@ -73,7 +77,7 @@ pub fn empty_place(rows: &mut Rows, probe: &Probe<'_>) -> Option<Row>
 /// Puts a row at a place, and keeps in the list of changes what stood there. After a refusal nothing changed.
 pub fn put_row(
     alloc: Global,
-    rows: &mut Rows,
+    rows: &mut PlacedRows,
     changes: &mut Vec<PlaceChange>,
     tab: u8,
     key: &[u8],
@@ -107,7 +111,7 @@ pub fn put_row(
 /// The same where the key has more than 32 bytes, so that its place takes memory.
 fn put_far(
     alloc: Global,
-    rows: &mut Rows,
+    rows: &mut PlacedRows,
     changes: &mut Vec<PlaceChange>,
     tab: u8,
     key: &[u8],
@@ -136,7 +140,7 @@ fn put_far(
 /// Empties a place, and keeps in the list of changes the row that stood there. The answer tells whether there was one.
 /// After a refusal nothing changed.
 pub fn take_row(
-    rows: &mut Rows,
+    rows: &mut PlacedRows,
     changes: &mut Vec<PlaceChange>,
     place: Place,
 ) -> Result<bool, AllocError>
@@ -168,7 +172,7 @@ pub fn take_row(
 }
 
 /// Forgets the changes. The places that were left empty go where they are many.
-pub fn forget(rows: &mut Rows, changes: &mut Vec<PlaceChange>)
+pub fn forget(rows: &mut PlacedRows, changes: &mut Vec<PlaceChange>)
     ensures rows { rows_of rows.new ≡ rows_of rows.old }
     ensures none { changes.new.items ≡ [] }
 {
@@ -177,7 +181,7 @@ pub fn forget(rows: &mut Rows, changes: &mut Vec<PlaceChange>)
 }
 
 /// Undoes the changes, the newest first, and leaves their places.
-pub fn roll_back(rows: &mut Rows, changes: &mut Vec<PlaceChange>)
+pub fn roll_back(rows: &mut PlacedRows, changes: &mut Vec<PlaceChange>)
     requires { HavePlaces changes.old.items rows.old }
     ensures { rows_of rows.new ≡ undone changes.old.items (rows_of rows.old) }
 {
@@ -189,7 +193,7 @@ pub fn roll_back(rows: &mut Rows, changes: &mut Vec<PlaceChange>)
 }
 
 /// Undoes a change. Its place is there.
-pub fn put_back(rows: &mut Rows, change: &mut PlaceChange)
+pub fn put_back(rows: &mut PlacedRows, change: &mut PlaceChange)
     requires { IsSome (place_at rows.old change.old.place) }
     ensures rows { rows_of rows.new ≡ set_at (rows_of rows.old) change.old.place change.old.before }
     ensures keeps { KeepsPlaces rows.old rows.new }

@@ -10,7 +10,7 @@ pub type Cursor = (usize, Spot);
 pub type CursorPair = (Cursor, Cursor);
 
 /// A cursor in few bytes.
-type Slot = (u32, u16, u16);
+type ShortCursor = (u32, u16, u16);
 
 /// The first place of all.
 const START: Cursor = (0, (0, 0));
@@ -28,7 +28,7 @@ pub struct Cursors {
     written: [Cursor; 16],
     /// Whether the last write was in the block that was read last.
     follows: [bool; 16],
-    used: Vec<Slot>,
+    used: Vec<ShortCursor>,
     /// Whether memory was asked for those cursors.
     asked: bool,
 }
@@ -133,7 +133,7 @@ fn is_in_block(one: Cursor, other: Cursor) -> bool {
 }
 
 /// Slots that know of no place; none where memory runs out.
-fn slots(alloc: Global) -> Vec<Slot> {
+fn slots(alloc: Global) -> Vec<ShortCursor> {
     match vec![in alloc; (0u32, 0u16, 0u16); SLOTS] {
         Ok(slots) => slots,
         Err(_) => Vec::new(alloc),

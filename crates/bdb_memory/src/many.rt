@@ -9,7 +9,7 @@ ghost use Rattle.bdb_keep.specs.Tables.{IsPlace};
 use crate::changes::{PlaceChange, empty_place, put_row, take_row};
 use crate::place::Place;
 use crate::row::Row;
-use crate::rows::Rows;
+use crate::rows::PlacedRows;
 use crate::words::Probe;
 use bdb_keep::Span;
 use std::alloc::{AllocError, Global};
@@ -18,7 +18,7 @@ use std::alloc::{AllocError, Global};
 /// changes tell of these.
 pub fn put_rows(
     alloc: Global,
-    rows: &mut Rows,
+    rows: &mut PlacedRows,
     changes: &mut Vec<PlaceChange>,
     tab: u8,
     span: &Span,
@@ -42,7 +42,7 @@ pub fn put_rows(
 /// have been emptied: the changes tell of these.
 pub fn take_rows(
     alloc: Global,
-    rows: &mut Rows,
+    rows: &mut PlacedRows,
     changes: &mut Vec<PlaceChange>,
     tab: u8,
     span: &Span,
@@ -66,7 +66,7 @@ pub fn take_rows(
 #[inline(always)]
 fn put_next(
     alloc: Global,
-    rows: &mut Rows,
+    rows: &mut PlacedRows,
     changes: &mut Vec<PlaceChange>,
     tab: u8,
     key: &[u8],
@@ -91,7 +91,7 @@ fn put_next(
 /// its place would take memory.
 #[inline(always)]
 fn put_behind(
-    rows: &mut Rows,
+    rows: &mut PlacedRows,
     changes: &mut Vec<PlaceChange>,
     tab: u8,
     key: &[u8],
@@ -127,7 +127,7 @@ fn put_behind(
 #[inline(always)]
 fn take_next(
     alloc: Global,
-    rows: &mut Rows,
+    rows: &mut PlacedRows,
     changes: &mut Vec<PlaceChange>,
     tab: u8,
     key: &[u8],
@@ -159,7 +159,7 @@ fn take_next(
 /// The same where the key has more than 32 bytes, so that its place takes memory.
 fn take_far(
     alloc: Global,
-    rows: &mut Rows,
+    rows: &mut PlacedRows,
     changes: &mut Vec<PlaceChange>,
     tab: u8,
     key: &[u8],
@@ -178,7 +178,7 @@ fn take_far(
 
 /// Empties a place, and answers the row that stood there. It looks first behind the one that was written last.
 #[inline(always)]
-fn empty_next(rows: &mut Rows, probe: &Probe<'_>) -> Option<Row>
+fn empty_next(rows: &mut PlacedRows, probe: &Probe<'_>) -> Option<Row>
     ensures row { result ≡ map.get (rows_of rows.old) probe.now }
     ensures rows { rows_of rows.new ≡ map.remove (rows_of rows.old) probe.now }
     ensures here { OnSome result (IsSome (place_at rows.new probe.now)) }

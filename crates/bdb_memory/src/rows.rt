@@ -26,7 +26,7 @@ use std::marker::Model;
 /// The rows by place. A place with no row is one whose row was removed; such places are taken away once they are many. What was used
 /// last is remembered, so that what comes next in the order of the places of a table is found at once.
 #[derive(Drop)]
-pub struct Rows {
+pub struct PlacedRows {
     alloc: Global,
     shelves: Vec<Shelf>,
     cursors: Cursors,
@@ -34,7 +34,7 @@ pub struct Rows {
     tally: Tally,
 }
 
-impl Model for Rows {
+impl Model for PlacedRows {
     ghost use Rattle.bdb_memory.specs.Entries.{Entries};
     ghost use Rattle.bdb_memory.specs.Blocks.{joined};
     ghost use Rattle.bdb_memory.specs.Tallies.{AreTallied};
@@ -46,12 +46,12 @@ impl Model for Rows {
     ghost invariant = { λ r. AreTallied r.shelves.items r.tally };
 }
 
-impl Rows {
+impl PlacedRows {
     /// No rows. It takes no memory.
     pub fn new(alloc: Global) -> Self
         ensures { result ≡ [] }
     {
-        Rows {
+        PlacedRows {
             alloc,
             shelves: Vec::new(alloc),
             cursors: Cursors::new(alloc),
@@ -200,7 +200,7 @@ impl Rows {
     }
 }
 
-impl Rows {
+impl PlacedRows {
     /// Reads the row at a place.
     pub fn read(&mut self, probe: &Probe<'_>, row: &mut Vec<u8>) -> Result<bool, AllocError>
         ensures found { IfOk result
@@ -284,7 +284,7 @@ impl Rows {
     }
 
     /// Whether each row is in others too.
-    pub fn lies_within(&self, others: &Rows) -> bool
+    pub fn lies_within(&self, others: &PlacedRows) -> bool
         ensures { IsTrue result ↔ LieWithin (rows_of self.now) (rows_of others.now) }
     {
         for shelf in &self.shelves {
@@ -297,7 +297,7 @@ impl Rows {
 }
 
 /// Whether each row of some blocks is in others.
-fn has_blocks(others: &Rows, blocks: &[Block]) -> bool
+fn has_blocks(others: &PlacedRows, blocks: &[Block]) -> bool
     ensures { IsTrue result ↔ AreAmong (rows_of others.now) (joined blocks.now) }
 {
     for block in blocks {
@@ -309,7 +309,7 @@ fn has_blocks(others: &Rows, blocks: &[Block]) -> bool
 }
 
 /// Whether each row of some entries is in others.
-fn has_all(others: &Rows, entries: &[Entry]) -> bool
+fn has_all(others: &PlacedRows, entries: &[Entry]) -> bool
     ensures { IsTrue result ↔ AreAmong (rows_of others.now) entries.now }
 {
     for entry in entries {
@@ -321,7 +321,7 @@ fn has_all(others: &Rows, entries: &[Entry]) -> bool
 }
 
 /// Whether others have the row of an entry. No row is had everywhere.
-fn has_same(others: &Rows, entry: &Entry) -> bool
+fn has_same(others: &PlacedRows, entry: &Entry) -> bool
     ensures { IsTrue result ↔ IsAmong (rows_of others.now) entry.now }
 {
     match entry.row() {

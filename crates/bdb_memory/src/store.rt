@@ -10,7 +10,7 @@ ghost use Rattle.bdb_keep.specs.Tables.{IsLeastFrom, NoneFrom};
 use crate::changes::{PlaceChange, forget, insert_row, put_row, roll_back, take_row};
 use crate::many::{put_rows, take_rows};
 use crate::place::Place;
-use crate::rows::Rows;
+use crate::rows::PlacedRows;
 use crate::words::Probe;
 use bdb_keep::{KeyEnd, Span};
 use std::alloc::{AllocError, Global};
@@ -21,7 +21,7 @@ use std::marker::Model;
 #[derive(Drop)]
 pub struct Store {
     alloc: Global,
-    rows: Rows,
+    rows: PlacedRows,
     changes: Vec<PlaceChange>,
 }
 
@@ -51,7 +51,7 @@ impl Store {
     {
         Store {
             alloc,
-            rows: Rows::new(alloc),
+            rows: PlacedRows::new(alloc),
             changes: Vec::new(alloc),
         }
     }

@@ -1,5 +1,6 @@
 -- The least number that is no key tells how long a list is that is kept by place.
 use Rattle.std.proofs.Common.{◌≡◌, ◌∙◌, ℕ, zero, suc, ◌+◌, ◌-◌, ◌<◌, ◌≤◌, true, List, [], ◌∷◌, length, Option, Some, None, is_some, refl, ap, sym, inl, inr, arith}
+use Rattle.std.specs.FinMap as tables
 use Rattle.std.specs.List.{slice_get}
 use Rattle.std.specs.Option.{option_map}
 use Rattle.std.proofs.lemmas.Bool.{cases_lt, false≢true}
@@ -8,6 +9,8 @@ use Rattle.bdb_base.specs.declared.kinds.RelDef.{RelDef}
 use Rattle.bdb_base.specs.declared.kinds.UserSlot.{UserSlot}
 use Rattle.bdb_base.proofs.OptionLemmas.{nothing_mapped}
 use Rattle.bdb_keep.specs.Tables.{Tables}
+use Rattle.bdb_key.specs.Bytes.{num_bytes}
+use Rattle.bdb_key.specs.Grammar.{IsNum}
 use Rattle.bdb_tables.specs.Gaps.{IsFirstGap}
 use Rattle.bdb_tables.specs.InUse.{rel_codec, user_codec}
 use Rattle.bdb_tables.specs.Stored.{slot_of}
@@ -36,6 +39,14 @@ gap_is at xs low n is from free least =
       | inr long ↦ omega (arith, there, past, long)
     ]
 
+-- the rows of a table are those of a list by place, and its first gap tells how long the list is
+listed : {X : Type 0} (t : Tables) (tab low n : ℕ) (bytes : X → List ℕ) (at : ℕ → Option X) (xs : List X)
+    → ((k : ℕ) → IsNum k → tables.get t (tab ∷ num_bytes k) ≡ option_map bytes (at k)) → ((i : ℕ) → at (low + i) ≡ slice_get xs i)
+    → IsFirstGap t tab low n → n ≡ low + length xs
+listed t tab low n bytes at xs rows is g =
+    gap_is at xs low n is g.from (nothing_mapped bytes (at n) (sym (rows n g.fits) ∙ g.free))
+    (λ k from below. some_since bytes (at k) (sym (ap is_some (rows k (omega (arith, below, g.fits)))) ∙ g.least k from below))
+
 slots_are : (users : List UserSlot) (i : ℕ) → slot_of users (1 + i) ≡ slice_get users i
 slots_are users i = let e : 1 + i ≡ suc i = omega arith in ap (slot_of users) e
 
@@ -45,15 +56,11 @@ rels_are rels i = let e : 0 + i ≡ i = omega arith in ap (slice_get rels) e
 pub next_user : (t : Tables) (uid : ℕ) → IsFirstGap t 2 1 uid → IsNextUser t uid
 next_user t uid g b s =
     let users = b.catalog.users in
-    let h = s.stored.users in
-    let e = gap_is (slot_of users) users 1 uid (slots_are users) g.from (nothing_mapped user_codec.row_bytes (slot_of users uid) (sym (h.rows uid g.fits) ∙ g.free))
-    (λ k from below. some_since user_codec.row_bytes (slot_of users k) (sym (ap is_some (h.rows k (omega (arith, below, g.fits)))) ∙ g.least k from below)) in
+    let e = listed t 2 1 uid user_codec.row_bytes (slot_of users) users s.stored.users.rows (slots_are users) g in
     omega (arith, e)
 
 pub next_relation : (t : Tables) (rel : ℕ) → IsFirstGap t 3 0 rel → IsNextRelation t rel
 next_relation t rel g b s =
     let rels = b.catalog.rels in
-    let h = s.stored.rels in
-    let e = gap_is (slice_get rels) rels 0 rel (rels_are rels) g.from (nothing_mapped rel_codec.row_bytes (slice_get rels rel) (sym (h.rows rel g.fits) ∙ g.free))
-    (λ k from below. some_since rel_codec.row_bytes (slice_get rels k) (sym (ap is_some (h.rows k (omega (arith, below, g.fits)))) ∙ g.least k from below)) in
+    let e = listed t 3 0 rel rel_codec.row_bytes (slice_get rels) rels s.stored.rels.rows (rels_are rels) g in
     omega (arith, e)

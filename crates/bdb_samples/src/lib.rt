@@ -11,4 +11,4 @@ pub use bases::{catalog, disputed, reported};
 pub use given::{BOB_DENIES, CROW, EAGLE, Given, stmts_of};
 pub use parts::{live, sightings, statement, tuple_of};
 pub use printed::text_of;
-pub use spelled::{bytes_of, words_of};
+pub use spelled::{RowChange, bytes_of, changes_of, words_of};

@@ -18,8 +18,8 @@ use Rattle.bdb_session.specs.Runs.{accepts_all, after, replies}
 use Rattle.bdb_session.specs.Served.{Ends}
 use Rattle.bdb_session.specs.Within.{IsKept, IsUndone, TellsWithin}
 use Rattle.bdb_session.specs.declared.batch.BatchReply.{BatchReply}
-use Rattle.bdb_session.specs.declared.event.Event.{Event}
-use Rattle.bdb_session.specs.declared.event.Event.TheVariants.{Piece}
+use Rattle.bdb_session.specs.declared.event.ScriptEvent.{ScriptEvent}
+use Rattle.bdb_session.specs.declared.event.ScriptEvent.TheVariants.{Piece}
 use Rattle.bdb_session.specs.declared.reply.Reply.{Reply}
 use Rattle.bdb_session.specs.declared.error.StopError.{StopError}
 use Rattle.bdb_session.specs.declared.error.StopError.TheVariants.{Fault}
@@ -29,23 +29,23 @@ use Rattle.bdb_session.proofs.BatchLists.{negated, negated_false}
 
 -- ---- where a batch breaks off
 
-all_up : (s : State) (es : List Event) → accepts_all s es ≡ true → up_to_refused s es ≡ es
+all_up : (s : State) (es : List ScriptEvent) → accepts_all s es ≡ true → up_to_refused s es ≡ es
 all_up s [] h = refl
 all_up s (e ∷ es) h =
     let p = and_parts (accepts s e) (accepts_all (next_state s e) es) h in
-    ap (λ (rest : List Event). e ∷ rest) (cond-true (accepts s e) (up_to_refused (next_state s e) es) [] p.0 ∙ all_up (next_state s e) es p.1)
+    ap (λ (rest : List ScriptEvent). e ∷ rest) (cond-true (accepts s e) (up_to_refused (next_state s e) es) [] p.0 ∙ all_up (next_state s e) es p.1)
 
 one_counted : (m n k : ℕ) → m ≡ n + 1 → n ≡ k → m ≡ suc k
 one_counted m n k e f = omega arith
 
-all_before : (s : State) (es : List Event) → accepts_all s es ≡ true → before_refused s es ≡ length es
+all_before : (s : State) (es : List ScriptEvent) → accepts_all s es ≡ true → before_refused s es ≡ length es
 all_before s [] h = refl
 all_before s (e ∷ es) h =
     let p = and_parts (accepts s e) (accepts_all (next_state s e) es) h in
     one_counted (before_refused s (e ∷ es)) (before_refused (next_state s e) es) (length es)
     (cond-true (accepts s e) (before_refused (next_state s e) es + 1) 0 p.0) (all_before (next_state s e) es p.1)
 
-whole : (s : State) (es : List Event) → accepts_all s es ≡ true → IsWhole s es
+whole : (s : State) (es : List ScriptEvent) → accepts_all s es ≡ true → IsWhole s es
 whole s es h = record {
   text = ap (replies s) (all_up s es h);
   accepted = all_before s es h;
@@ -54,7 +54,7 @@ whole s es h = record {
 }
 
 -- the first is refused
-at_once : (s : State) (e : Event) (es : List Event) → accepts s e ≡ false → accepts_all s (e ∷ es) ≡ false → BreaksOff s (e ∷ es)
+at_once : (s : State) (e : ScriptEvent) (es : List ScriptEvent) → accepts s e ≡ false → accepts_all s (e ∷ es) ≡ false → BreaksOff s (e ∷ es)
 at_once s e es no_more h = record {
   front = [];
   refused = e;
@@ -62,22 +62,22 @@ at_once s e es no_more h = record {
   are = refl;
   are_accepted = refl;
   is_refused = no_more;
-  text = ap (λ (xs : List Event). reply_of s e ++ replies (next_state s e) xs) (cond-false (accepts s e) (up_to_refused (next_state s e) es) [] no_more);
+  text = ap (λ (xs : List ScriptEvent). reply_of s e ++ replies (next_state s e) xs) (cond-false (accepts s e) (up_to_refused (next_state s e) es) [] no_more);
   accepted = cond-false (accepts s e) (before_refused (next_state s e) es + 1) 0 no_more;
   next = cond-false (accepts_all s (e ∷ es)) (after s (e ∷ es)) s h;
   commits = cond-false (accepts_all s (e ∷ es)) 1 0 h;
 }
 
 -- it is accepted, and a later one is refused
-later_on : (s : State) (e : Event) (es : List Event) → accepts s e ≡ true → accepts_all s (e ∷ es) ≡ false → BreaksOff (next_state s e) es → BreaksOff s (e ∷ es)
+later_on : (s : State) (e : ScriptEvent) (es : List ScriptEvent) → accepts s e ≡ true → accepts_all s (e ∷ es) ≡ false → BreaksOff (next_state s e) es → BreaksOff s (e ∷ es)
 later_on s e es more h r = record {
   front = e ∷ r.front;
   refused = r.refused;
   rest = r.rest;
-  are = ap (λ (xs : List Event). e ∷ xs) r.are;
+  are = ap (λ (xs : List ScriptEvent). e ∷ xs) r.are;
   are_accepted = and_from (accepts s e) (accepts_all (next_state s e) r.front) more r.are_accepted;
   is_refused = r.is_refused;
-  text = ap (λ (xs : List Event). reply_of s e ++ replies (next_state s e) xs) (cond-true (accepts s e) (up_to_refused (next_state s e) es) [] more)
+  text = ap (λ (xs : List ScriptEvent). reply_of s e ++ replies (next_state s e) xs) (cond-true (accepts s e) (up_to_refused (next_state s e) es) [] more)
       ∙ ap (λ (x : List ℕ). reply_of s e ++ x) r.text;
   accepted = one_counted (before_refused s (e ∷ es)) (before_refused (next_state s e) es) (length r.front)
       (cond-true (accepts s e) (before_refused (next_state s e) es + 1) 0 more) r.accepted;
@@ -85,7 +85,7 @@ later_on s e es more h r = record {
   commits = cond-false (accepts_all s (e ∷ es)) 1 0 h;
 }
 
-breaks : (s : State) (es : List Event) → accepts_all s es ≡ false → BreaksOff s es
+breaks : (s : State) (es : List ScriptEvent) → accepts_all s es ≡ false → BreaksOff s es
 breaks s [] h = absurd (false≢true (sym h))
 breaks s (e ∷ es) h = elim (cases_Bool (accepts s e)) [
   | inl more ↦ later_on s e es more h (breaks (next_state s e) es (ap (λ (b : Bool). b && accepts_all (next_state s e) es) (sym more) ∙ h))
@@ -116,20 +116,20 @@ line_agrees line k now old new r h some = record { state = next_state some.state
 pub none_run : (s : State) (text : List ℕ) (now : Known) (new : Seen) → Agrees new.kept now s → AreRun s [] text text 0 false now new
 none_run s text now new a = record { text = sym (append-nil text); accepted_is = refl; refused_is = refl; next = λ _. a }
 
-pub refused_run : (s : State) (e : Event) (es : List Event) (before told : List ℕ) (now : Known) (new : Seen) → IsRun s e before told false now new
+pub refused_run : (s : State) (e : ScriptEvent) (es : List ScriptEvent) (before told : List ℕ) (now : Known) (new : Seen) → IsRun s e before told false now new
     → AreRun s (e ∷ es) before told 0 true now new
 refused_run s e es before told now new h =
     let no_more = sym h.accepted_is in
     let none : accepts_all s (e ∷ es) ≡ false = ap (λ (b : Bool). b && accepts_all (next_state s e) es) no_more in
     record {
       text = h.text ∙ ap (λ (x : List ℕ). before ++ x) (sym (append-nil (reply_of s e)))
-          ∙ ap (λ (x : List Event). before ++ (reply_of s e ++ replies (next_state s e) x)) (sym (cond-false (accepts s e) (up_to_refused (next_state s e) es) [] no_more));
+          ∙ ap (λ (x : List ScriptEvent). before ++ (reply_of s e ++ replies (next_state s e) x)) (sym (cond-false (accepts s e) (up_to_refused (next_state s e) es) [] no_more));
       accepted_is = sym (cond-false (accepts s e) (before_refused (next_state s e) es + 1) 0 no_more);
       refused_is = ap not (sym none);
       next = λ all. absurd (false≢true (sym none ∙ all));
     }
 
-pub then_run : (s : State) (e : Event) (es : List Event) (before mid told : List ℕ) (n : ℕ) (refused : Bool) (between now : Known) (run new : Seen) → IsRun s e before mid true between run
+pub then_run : (s : State) (e : ScriptEvent) (es : List ScriptEvent) (before mid told : List ℕ) (n : ℕ) (refused : Bool) (between now : Known) (run new : Seen) → IsRun s e before mid true between run
     → AreRun (next_state s e) es mid told n refused now new → AreRun s (e ∷ es) before told (n + 1) refused now new
 then_run s e es before mid told n refused between now run new h r =
     let next = next_state s e in
@@ -137,7 +137,7 @@ then_run s e es before mid told n refused between now run new h r =
     let same : accepts_all s (e ∷ es) ≡ accepts_all next es = ap (λ (b : Bool). b && accepts_all next es) more in
     record {
       text = r.text ∙ ap (λ (x : List ℕ). x ++ batch_text next es) h.text ∙ append_assoc before (reply_of s e) (batch_text next es)
-          ∙ ap (λ (x : List Event). before ++ (reply_of s e ++ replies next x)) (sym (cond-true (accepts s e) (up_to_refused next es) [] more));
+          ∙ ap (λ (x : List ScriptEvent). before ++ (reply_of s e ++ replies next x)) (sym (cond-true (accepts s e) (up_to_refused next es) [] more));
       accepted_is = ap (λ m. m + 1) r.accepted_is ∙ sym (cond-true (accepts s e) (before_refused next es + 1) 0 more);
       refused_is = r.refused_is ∙ ap not (sym same);
       next = λ all. r.next (sym same ∙ all);
@@ -166,7 +166,7 @@ then_lines s lines rest line accepted before mid told n refused between now run 
     (then_run s (Piece line) (pieces rest) before mid told n refused between now run new (subst (λ (b : Bool). IsRun s (Piece line) before mid b between run) e h) r)
 
 -- the same text, behind none
-pub run_as : (s : State) (es : List Event) (before told text : List ℕ) (n : ℕ) (refused : Bool) (now : Known) (new : Seen) → before ≡ [] → text ≡ told → AreRun s es before told n refused now new
+pub run_as : (s : State) (es : List ScriptEvent) (before told text : List ℕ) (n : ℕ) (refused : Bool) (now : Known) (new : Seen) → before ≡ [] → text ≡ told → AreRun s es before told n refused now new
     → AreRun s es [] text n refused now new
 run_as s es before told text n refused now new e f h = record {
   text = f ∙ h.text ∙ ap (λ (x : List ℕ). x ++ batch_text s es) e;
@@ -182,18 +182,18 @@ drop_ends : {R : Type 0} (before now : Known) (old new : Seen) (stop : StopError
 drop_ends before now old new stop e still d fall cause =
     record { same = e; still = dropped_is_still old new d; never_fall = fall; cause = cause; err = dropped_is_unchanged old new still d }
 
-stop_batch : (es : List Event) (before now : Known) (old new : Seen) (stop : StopError) → now ≡ before → IsStill old → IsDropped old new → NeverFall old new
+stop_batch : (es : List ScriptEvent) (before now : Known) (old new : Seen) (stop : StopError) → now ≡ before → IsStill old → IsDropped old new → NeverFall old new
     → HasCause {T = BatchReply} old.faults new.faults (Err stop) Fault → ServesBatch es before now old new (Err stop)
 stop_batch es before now old new stop e still d fall cause = record {
   served = λ s a. record { reply = tt; next = tt; commits = tt; alone = tt; known = tt };
   ends = drop_ends {R = BatchReply} before now old new stop e still d fall cause;
 }
 
-pub unbegun_batch : (es : List Event) (k : Known) (old new : Seen) (stop : StopError) → IsStill old → IsBegin {T = Unit {0}} old new (Err stop) Fault → ServesBatch es k k old new (Err stop)
+pub unbegun_batch : (es : List ScriptEvent) (k : Known) (old new : Seen) (stop : StopError) → IsStill old → IsBegin {T = Unit {0}} old new (Err stop) Fault → ServesBatch es k k old new (Err stop)
 unbegun_batch es k old new stop still b =
     stop_batch es k k old new stop refl still b.err b.counts (cause_later {T = Unit {0}} {U = BatchReply} old.faults old.faults new.faults stop (omega arith) b.cause)
 
-module _ (es : List Event) (before learns : Known) (old run mid new : Seen) (still : IsStill old) (began : IsBegin {T = Unit {0}} {E = StopError} old run (Ok tt) Fault) where
+module _ (es : List ScriptEvent) (before learns : Known) (old run mid new : Seen) (still : IsStill old) (began : IsBegin {T = Unit {0}} {E = StopError} old run (Ok tt) Fault) where
   begun : (s : State) → Agrees old.kept before s → Agrees run.kept before s
   begun s a = still_agrees old.kept run.kept before s began.kept a
 
@@ -267,7 +267,7 @@ module _ (es : List Event) (before learns : Known) (old run mid new : Seen) (sti
     ]
 
 -- the parts of what is answered
-module _ (s : State) (es : List Event) where
+module _ (s : State) (es : List ScriptEvent) where
   pub told_refused : (result : Result BatchReply StopError) → IfOk result (IsBatchReply s es) → IfOk result (λ r. r.refused ≡ not (accepts_all s es))
   told_refused (Ok r) h = h.refused
   told_refused (Err stop) h = tt

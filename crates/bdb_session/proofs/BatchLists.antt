@@ -26,8 +26,8 @@ use Rattle.bdb_session.specs.Runs.{accepts_all, after}
 use Rattle.bdb_session.specs.Within.{IsKept, IsUndone, LeadsBy, catalog_by, learned, noted_by}
 use Rattle.bdb_session.specs.declared.batch.BatchReply.{BatchReply}
 use Rattle.bdb_session.specs.declared.news.News.{News}
-use Rattle.bdb_session.specs.declared.event.Event.{Event}
-use Rattle.bdb_session.specs.declared.event.Event.TheVariants.{Piece}
+use Rattle.bdb_session.specs.declared.event.ScriptEvent.{ScriptEvent}
+use Rattle.bdb_session.specs.declared.event.ScriptEvent.TheVariants.{Piece}
 use Rattle.bdb_session.specs.declared.error.StopError.{StopError}
 use Rattle.bdb_session.specs.declared.error.StopError.TheVariants.{Fault}
 use Rattle.bdb_session.proofs.FollowLemmas.{agrees_as, agrees_on, still_remembers}
@@ -41,7 +41,7 @@ pub copy_some_agrees : (t : Tables) (k : Known) → RemembersSome t k → Agrees
 copy_some_agrees t k r = record { state = start_from r.timeline.now; agrees = copy_agrees t k (start_from r.timeline.now) r.remembers.agrees }
 
 -- and so does the session that takes over what a copy knows
-pub taken_run : (s : State) (es : List Event) (before told : List ℕ) (n : ℕ) (refused : Bool) (k copy : Known) (new : Seen) → AreRun s es before told n refused copy new
+pub taken_run : (s : State) (es : List ScriptEvent) (before told : List ℕ) (n : ℕ) (refused : Bool) (k copy : Known) (new : Seen) → AreRun s es before told n refused copy new
     → AreRun s es before told n refused (taken_over k copy) new
 taken_run s es before told n refused k copy new h = record {
   text = h.text;
@@ -57,7 +57,7 @@ not_false true e = refl
 not_false false e = absurd (false≢true (sym e))
 
 -- where no event alters the base, it stays
-pub unaltered_stays : (s : State) (es : List Event) → alters_some s es ≡ false → (after s es).base ≡ s.base
+pub unaltered_stays : (s : State) (es : List ScriptEvent) → alters_some s es ≡ false → (after s es).base ≡ s.base
 unaltered_stays s [] e = refl
 unaltered_stays s (x ∷ es) e =
     let next = next_state s x in
@@ -151,7 +151,7 @@ second_false : (a b : Bool) → a ≡ true → b ≡ false → (a && b) ≡ fals
 second_false a b e f = ap (λ (x : Bool). x && b) e ∙ f
 
 -- what is left of the timeline where no event is refused, by whether the base was altered
-module _ (t : Timeline) (es : List Event) (all : accepts_all (start_from t.now) es ≡ true) where
+module _ (t : Timeline) (es : List ScriptEvent) (all : accepts_all (start_from t.now) es ≡ true) where
   abbrev last : State
   last = after (start_from t.now) es
 
@@ -177,7 +177,7 @@ module _ (t : Timeline) (es : List Event) (all : accepts_all (start_from t.now) 
   ]
 
 -- what is left of it by how the batch ended
-module _ (es : List Event) (before copy : Known) (old run mid new : Seen) (began : IsBegin {T = Unit {0}} {E = StopError} old run (Ok tt) Fault) (told : BatchReply)
+module _ (es : List ScriptEvent) (before copy : Known) (old run mid new : Seen) (began : IsBegin {T = Unit {0}} {E = StopError} old run (Ok tt) Fault) (told : BatchReply)
     (ran : (s : State) → Agrees run.kept before s → AreRun s es [] told.text told.accepted told.refused (taken_over before copy) mid)
     (altered : (s : State) → Agrees run.kept before s → accepts_all s es ≡ true → is_altered copy ≡ alters_some s es)
     (undone : told.refused ≡ true → new.kept ≡ old.kept) where
@@ -216,7 +216,7 @@ module _ (es : List Event) (before copy : Known) (old run mid new : Seen) (began
   ]
 
 -- the changes of a copy that had none are those of the lines that it ran
-pub copy_altered : {T : Type 0} (es : List Event) (k copy now : Known) (run : Seen) (x : T) → copy ≡ without_changes k → AlterSome {T = T} es copy now run (Ok x)
+pub copy_altered : {T : Type 0} (es : List ScriptEvent) (k copy now : Known) (run : Seen) (x : T) → copy ≡ without_changes k → AlterSome {T = T} es copy now run (Ok x)
     → (s : State) → Agrees run.kept k s → accepts_all s es ≡ true → is_altered now ≡ alters_some s es
 copy_altered {T} es k copy now run x same h =
     let mine : AlterSome {T = T} es (without_changes k) now run (Ok x) = subst (λ (j : Known). AlterSome {T = T} es j now run (Ok x)) same h in
@@ -230,7 +230,7 @@ undone_kept before copy old run mid new told still began goes now result h refus
     k.undo.dropped.undone ∙ goes.last ∙ began.last ∙ sym still.rest
 
 -- a session that remembered some timeline still does
-pub remembers_after_batch : (es : List Event) (before now : Known) (old new : Seen) (result : Result BatchReply StopError) → RemembersSome old.kept before
+pub remembers_after_batch : (es : List ScriptEvent) (before now : Known) (old new : Seen) (result : Result BatchReply StopError) → RemembersSome old.kept before
     → ServesBatch es before now old new result → ((t : Timeline) → Remembers old.kept before t → OnOk result (Remembers new.kept now (batch_timeline t es)))
     → RemembersSome new.kept now
 remembers_after_batch es before now old new (Ok r) some h lists = record { timeline = batch_timeline some.timeline es; remembers = lists some.timeline some.remembers }

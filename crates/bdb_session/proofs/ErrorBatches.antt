@@ -16,7 +16,7 @@ use Rattle.bdb_session.specs.ErrorLaws.{HasValidBase}
 use Rattle.bdb_session.specs.Machine.{next_state, outcome_of}
 use Rattle.bdb_session.specs.Outcome.{State, Outcome, Blank, Refused, Done, is_accepted, state_after, text_of}
 use Rattle.bdb_session.specs.Runs.{accepts_all, replies}
-use Rattle.bdb_session.specs.declared.event.Event.{Event}
+use Rattle.bdb_session.specs.declared.event.ScriptEvent.{ScriptEvent}
 
 -- lines that tell no error, and behind them nothing, or an error
 pub record AreTold (fine : Bool) (text : List ℕ) : Type 0 where
@@ -27,7 +27,7 @@ pub record AreTold (fine : Bool) (text : List ℕ) : Type 0 where
   pub ends : MatchBool fine (last ≡ []) ((more : List ℕ) × (last ≡ codes "error " ++ more))
 
 -- one outcome, and then what is told behind it
-told_next : (c : Catalog) (s : State) (o : Outcome) (es : List Event) → IsQuietOutcome o → AreTold (accepts_all (state_after s o) es) (batch_text (state_after s o) es)
+told_next : (c : Catalog) (s : State) (o : Outcome) (es : List ScriptEvent) → IsQuietOutcome o → AreTold (accepts_all (state_after s o) es) (batch_text (state_after s o) es)
     → AreTold (is_accepted o && accepts_all (state_after s o) es) (text_of c o ++ replies (state_after s o) (if is_accepted o then up_to_refused (state_after s o) es else []))
 told_next c s Blank es q h = h
 told_next c s (Refused r) es q h = record {
@@ -49,6 +49,6 @@ told_next c s (Done text answers next) es q h = record {
   ends = h.ends;
 }
 
-pub batch_told : (s : State) (es : List Event) → HasValidBase s → AreTold (accepts_all s es) (batch_text s es)
+pub batch_told : (s : State) (es : List ScriptEvent) → HasValidBase s → AreTold (accepts_all s es) (batch_text s es)
 batch_told s [] v = record { texts = []; last = []; is = refl; quiet = refl; ends = refl }
 batch_told s (e ∷ es) v = told_next s.base.catalog s (outcome_of s e) es (outcome_quiet s e v) (batch_told (next_state s e) es (bases_stay_valid s e v))

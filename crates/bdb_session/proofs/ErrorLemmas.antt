@@ -42,8 +42,8 @@ use Rattle.bdb_session.specs.Outcome.{State, Outcome, Blank, Refused, Done, is_a
 use Rattle.bdb_session.specs.Reading.{reading_of}
 use Rattle.bdb_session.specs.Runs.{accepts_all, replies}
 use Rattle.bdb_session.specs.Sizes.{passed_limit, too_many}
-use Rattle.bdb_session.specs.declared.event.Event.{Event}
-use Rattle.bdb_session.specs.declared.event.Event.TheVariants as event
+use Rattle.bdb_session.specs.declared.event.ScriptEvent.{ScriptEvent}
+use Rattle.bdb_session.specs.declared.event.ScriptEvent.TheVariants as event
 use Rattle.bdb_session.specs.declared.reading.Reading.{Reading}
 use Rattle.bdb_session.specs.declared.reading.Reading.TheVariants as reading
 
@@ -120,7 +120,7 @@ reading_quiet s reading.Nothing v p = tt
 reading_quiet s (reading.Says c) v p = command_quiet s c v p
 reading_quiet s (reading.Refused r) v p = tt
 
-pub outcome_quiet : (s : State) (e : Event) → HasValidBase s → IsQuietOutcome (outcome_of s e)
+pub outcome_quiet : (s : State) (e : ScriptEvent) → HasValidBase s → IsQuietOutcome (outcome_of s e)
 outcome_quiet s (event.Piece bytes) v = reading_quiet s (reading_of bytes) v (reading_printable bytes)
 outcome_quiet s event.Long v = tt
 outcome_quiet s event.Unfinished v = tt

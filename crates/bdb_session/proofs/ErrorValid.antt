@@ -40,7 +40,7 @@ use Rattle.bdb_update.specs.Calls.{clash_of, with_stmts}
 use Rattle.bdb_session.specs.Outcome.{State, Outcome, Done, state_after, unless}
 use Rattle.bdb_session.specs.Reading.{reading_of}
 use Rattle.bdb_session.specs.Sizes.{passed_limit, too_many}
-use Rattle.bdb_session.specs.declared.event.Event.TheVariants as event
+use Rattle.bdb_session.specs.declared.event.ScriptEvent.TheVariants as event
 use Rattle.bdb_session.specs.declared.reading.Reading.{Reading}
 use Rattle.bdb_session.specs.declared.reading.Reading.TheVariants as reading
 

@@ -17,8 +17,8 @@ use Rattle.bdb_session.specs.Served.{IsReply, AnswersAlone, Serves}
 use Rattle.bdb_session.specs.Undoing.{course_of_command, course_of_reading, next_by, next_state, outcome_by, outcome_of}
 use Rattle.bdb_session.specs.declared.course.Course.{Course}
 use Rattle.bdb_session.specs.declared.course.Course.TheVariants.{Back, Forth, Onward}
-use Rattle.bdb_session.specs.declared.event.Event.{Event}
-use Rattle.bdb_session.specs.declared.event.Event.TheVariants.{Piece}
+use Rattle.bdb_session.specs.declared.event.ScriptEvent.{ScriptEvent}
+use Rattle.bdb_session.specs.declared.event.ScriptEvent.TheVariants.{Piece}
 use Rattle.bdb_session.specs.declared.reading.Reading.{Reading}
 use Rattle.bdb_session.specs.declared.reading.Reading.TheVariants as reading
 use Rattle.bdb_session.specs.declared.reply.Reply.{Reply}
@@ -194,13 +194,13 @@ said_piece bytes c before now old new result e h =
     (λ t m. said_is t bytes c e) (λ t m. said_leads t bytes c e) h
 
 -- an event that is refused as it stands
-pub refused_event : (e : Event) (x : Refusal) (k : Known) (old : Seen) (result : Result Reply StopError) → ((t : Timeline) → outcome_of t e ≡ Refused x)
+pub refused_event : (e : ScriptEvent) (x : Refusal) (k : Known) (old : Seen) (result : Result Reply StopError) → ((t : Timeline) → outcome_of t e ≡ Refused x)
     → ((t : Timeline) → next_state t e ≡ t) → IsStill old → AnswersAlone k.catalog (Refused x) result → FollowsEvent e k k old old result
 refused_event e x k old result is stays still told = refused_follows (λ t. outcome_of t e) (λ t. next_state t e) x k old result (λ t m. is t) (λ t m. stays t) still told
 
-pub event_as : (e known : Event) (before now : Known) (old new : Seen) (result : Result Reply StopError) → e ≡ known → FollowsEvent known before now old new result
+pub event_as : (e known : ScriptEvent) (before now : Known) (old new : Seen) (result : Result Reply StopError) → e ≡ known → FollowsEvent known before now old new result
     → FollowsEvent e before now old new result
-event_as e known before now old new result is h = subst (λ (x : Event). FollowsEvent x before now old new result) (sym is) h
+event_as e known before now old new result is h = subst (λ (x : ScriptEvent). FollowsEvent x before now old new result) (sym is) h
 
 -- ---- the parts of what is answered
 

@@ -1,6 +1,7 @@
 pub mod AllowedLemmas
 pub mod BatchLemmas
 pub mod BatchLists
+pub mod BindLemmas
 pub mod BoundLemmas
 pub mod CatalogLemmas
 pub mod ChangeFacts

@@ -33,7 +33,7 @@ use Rattle.bdb_session.specs.Known.{Known, Agrees}
 use Rattle.bdb_session.specs.Machine.{bound_outcome}
 use Rattle.bdb_session.specs.Noting.{AreNew, MayMeetEach, PushesNew, Replaces, SomeMayMeetEach, made_of}
 use Rattle.bdb_session.specs.Outcome.{State, Outcome, state_after}
-use Rattle.bdb_session.specs.Within.{IsStopped, LeadsBy, TellsChange, nothing_new}
+use Rattle.bdb_session.specs.Within.{IsStopped, LeadsBy, TellsChange, nothing_new, sized}
 
 -- ---- what is told
 
@@ -73,6 +73,17 @@ pub changes_as : (outcome known : State → Outcome) (k from : Known) (c : Optio
 changes_as outcome known k from c old (Ok r) is e h = λ s a.
     subst (λ (o : Outcome). LeadsBy c s.base (state_after s o).base) (sym (is s)) (h s (subst (λ (x : Known). Agrees old.kept x s) e a))
 changes_as outcome known k from c old (Err stop) is e h = λ s a. tt
+
+-- of a command that is bound, and where nothing was learned before
+pub changes_bound : (b known : Bound) (k : Known) (c : Option Change) (old : Seen) (result : Result Reply StopError) → b ≡ known → TellsChange (λ s. bound_outcome s known) k c old result
+    → TellsChange (λ s. bound_outcome s b) k c old result
+changes_bound b known k c old result is h = changes_as (λ s. bound_outcome s b) (λ s. bound_outcome s known) k k c old result (λ s. ap (bound_outcome s) is) refl h
+
+pub changes_from : (b known : Bound) (k : Known) (news : News) (c : Option Change) (old : Seen) (result : Result Reply StopError) → news ≡ nothing_new k → b ≡ known
+    → TellsChange (λ s. bound_outcome s known) (sized k news.counts) c old result → TellsChange (λ s. bound_outcome s b) k c old result
+changes_from b known k news c old result nothing is h =
+    changes_as (λ s. bound_outcome s b) (λ s. bound_outcome s known) k (sized k news.counts) c old result (λ s. ap (bound_outcome s) is)
+    (sym (ap (λ (n : News). sized k n.counts) nothing)) h
 
 -- ---- commands that leave the base as it is
 

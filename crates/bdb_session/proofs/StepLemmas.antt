@@ -4,27 +4,27 @@ use Rattle.std.proofs.lemmas.Bool.{cases_Bool, false≢true, MatchBool-at_true, 
 use Rattle.bdb_base.specs.Bases.{Contents, world_count}
 use Rattle.bdb_base.specs.Causes.{Rises}
 use Rattle.bdb_base.specs.Changes.{changed_statement, statements_naming, taken_by, without_statements_of}
-use Rattle.bdb_base.specs.Limits.{deepest_statement}
 use Rattle.bdb_base.specs.declared.kinds.Catalog.{Catalog}
 use Rattle.bdb_base.specs.declared.kinds.Cond.{Cond}
 use Rattle.bdb_base.specs.declared.kinds.SetCol.{SetCol}
 use Rattle.bdb_base.specs.declared.kinds.Sign.{Sign}
 use Rattle.bdb_base.specs.declared.kinds.Stmt.{Stmt}
-use Rattle.bdb_bind.specs.Fits.{fits_catalog, fits_path}
+use Rattle.bdb_bind.specs.Fits.{fits_catalog}
 use Rattle.bdb_bind.specs.declared.bound.Bound.TheVariants.{Delete, DropUser, Update}
 use Rattle.bdb_canon.specs.declared.sizes.Counts.{Counts}
-use Rattle.bdb_catalog.specs.Taking.{AreTaken}
 use Rattle.bdb_keep.specs.Calls.{IsBegin}
 use Rattle.bdb_keep.specs.Seen.{Seen}
 use Rattle.bdb_keep.specs.Tables.{Tables}
 use Rattle.bdb_leaving.specs.Leaving.{LeavesThrough, WritesLeaving}
+use Rattle.bdb_render.specs.declared.refusal.Refusal.{Refusal}
 use Rattle.bdb_render.specs.declared.refusal.Refusal.TheVariants as refusal
-use Rattle.bdb_update.specs.Calls.{Changes}
+use Rattle.bdb_update.specs.Calls.{Changes, IsUnwritten}
 use Rattle.bdb_update.specs.Replacing.{WritesForOne}
 use Rattle.bdb_update.specs.Steps.{ChangesThrough, GoesThrough, KeepsOneWay, WritesThrough, steps_of, steps_without}
 use Rattle.bdb_update.specs.declared.answer.UpdateError.{UpdateError}
 use Rattle.bdb_update.specs.declared.answer.UpdateError.TheVariants as change
 use Rattle.bdb_session.specs.Bounds.{UpdatesThrough, WritesAsTold}
+use Rattle.bdb_session.specs.declared.change.Selection.{Selection}
 use Rattle.bdb_session.specs.declared.reply.Reply.{Reply}
 use Rattle.bdb_session.specs.declared.error.StopError.{StopError}
 use Rattle.bdb_session.specs.declared.error.StopError.TheVariants.{Fault, Memory}
@@ -32,10 +32,10 @@ use Rattle.bdb_session.specs.Known.{Known, Agrees}
 use Rattle.bdb_session.specs.Machine.{clash_with}
 use Rattle.bdb_session.specs.Outcome.{State, Outcome, Refused, is_accepted}
 use Rattle.bdb_session.specs.Within.{IsSaid, IsStopped, Refuses, IsKept, IsUndone, Closes, sized}
-use Rattle.bdb_session.proofs.DeleteLemmas.{gone_is, may_go}
+use Rattle.bdb_session.proofs.DeleteLemmas.{HasSelected, gone_is, may_go}
 use Rattle.bdb_session.proofs.LeaveLemmas.{may_leave}
 use Rattle.bdb_session.proofs.ServedLemmas.{still_agrees}
-use Rattle.bdb_session.proofs.UpdateLemmas.{may_change, update_path_fits}
+use Rattle.bdb_session.proofs.UpdateLemmas.{IsUpdate, may_change}
 use Rattle.bdb_session.proofs.WriteLemmas.{one_delete_writes, same_writes, closed_writes}
 
 -- steps from one keeper to another are steps from a keeper with the rows and writes of the first to one with those of the second
@@ -85,18 +85,15 @@ leave_writes k counts uid old mid new c o result done fits same through said = �
 }
 
 -- a delete
-pub delete_writes : (k : Known) (before : Counts) (w : List ℕ) (sign : Sign) (rel : ℕ) (conds : List Cond) (gone : List Stmt) (old read mid new : Seen) (c : Catalog) (o : Outcome)
-    (result : Result Reply StopError) → is_accepted o ≡ true → fits_path k.catalog.users deepest_statement w ≡ true → AreTaken old.kept w sign rel conds gone → read.kept ≡ old.kept
-    → read.writes ≡ old.writes → WritesForOne gone read mid (Ok tt) → GoesThrough before gone read mid → IsSaid c o mid new result → WritesAsTold (Delete w sign rel conds) (sized k before) old new result
-delete_writes k before w sign rel conds gone old read mid new c o result done fits taken kept writes one through said = λ s a.
-    let is = gone_is k before old.kept read.kept w sign rel conds gone fits taken kept s a in
-    let goes = through s.base (may_go k before old.kept read.kept w sign rel conds gone fits taken kept s a) in
-    record {
-      one = one_delete_writes k before w sign rel conds gone old read mid new c o result fits taken kept writes one said s a;
-      steps = said_through (steps_without s.base (taken_by w sign rel conds s.base.stmts)) c o old read mid new result kept writes
-          (subst (λ (xs : List Stmt). WritesThrough read (steps_without s.base xs) mid) is goes) said;
-      accepted = said_accepted c o mid new result done said;
-    }
+pub delete_writes : {k : Known} {before : Counts} {x : Selection} {old now : Seen} {gone : List Stmt} (read : HasSelected k before x old now gone) (fin new : Seen) (c : Catalog) (o : Outcome)
+    (result : Result Reply StopError) → is_accepted o ≡ true → WritesForOne gone now fin (Ok tt) → GoesThrough before gone now fin → IsSaid c o fin new result
+    → WritesAsTold (Delete x.path x.sign x.rel x.conds) (sized k before) old new result
+delete_writes {x} {old} {now} read fin new c o result done one through said = λ s a. record {
+  one = one_delete_writes read fin new c o result one said s a;
+  steps = said_through (steps_without s.base (taken_by x.path x.sign x.rel x.conds s.base.stmts)) c o old now fin new result read.kept read.writes
+      (subst (λ (xs : List Stmt). WritesThrough now (steps_without s.base xs) fin) (gone_is read s a) (through s.base (may_go read s a))) said;
+  accepted = said_accepted c o fin new result done said;
+}
 
 -- an update that is accepted, one that is refused, and one that stops
 accepted_through : (b : Contents) (gone : List Stmt) (sets : List SetCol) (c : Catalog) (o : Outcome) (old read mid new : Seen) (result : Result Reply StopError) → is_accepted o ≡ true
@@ -122,28 +119,30 @@ stopped_through b gone sets stop old mid new result said =
     subst (λ (r : Result Reply StopError). UpdatesThrough b gone sets old new r) (sym said.error) (record { steps = tt; refused = tt })
 
 -- an update, after its statements were read
-module _ (k : Known) (before : Counts) (w : List ℕ) (sign : Sign) (rel : ℕ) (conds : List Cond) (sets : List SetCol) (gone come : List Stmt) (old read mid new : Seen)
-    (fits : fits_catalog k.catalog (Update w sign rel sets conds) ≡ true) (taken : AreTaken old.kept w sign rel conds gone) (kept : read.kept ≡ old.kept) (writes : read.writes ≡ old.writes)
-    (changes : come ≡ map (changed_statement sets) gone) (result : Result Reply StopError) where
-  pub update_writes : (o : Outcome) → is_accepted o ≡ true → ChangesThrough before w gone come read mid → IsSaid k.catalog o mid new result
-      → WritesAsTold (Update w sign rel sets conds) (sized k before) old new result
+module _ {k : Known} {before : Counts} {x : Selection} {sets : List SetCol} {old now : Seen} {gone come : List Stmt} (update : IsUpdate k before x sets old now gone come)
+    (fin new : Seen) (result : Result Reply StopError) where
+  pub update_writes : (o : Outcome) → is_accepted o ≡ true → ChangesThrough before x.path gone come now fin → IsSaid k.catalog o fin new result
+      → WritesAsTold (Update x.path x.sign x.rel sets x.conds) (sized k before) old new result
   update_writes o e through said = λ s a.
-      let is = gone_is k before old.kept read.kept w sign rel conds gone (update_path_fits k.catalog w sign rel sets conds fits) taken kept s a in
-      let goes = through s.base (may_change k before old.kept read.kept w sign rel conds sets gone come fits taken kept changes s a) in
-      let next = subst (λ (xs : List Stmt). WritesThrough read (steps_of s.base gone xs) mid) changes goes in
-      accepted_through s.base (taken_by w sign rel conds s.base.stmts) sets k.catalog o old read mid new result e kept writes
-      (subst (λ (xs : List Stmt). WritesThrough read (steps_of s.base xs (map (changed_statement sets) xs)) mid) is next) said
+      let read = update.selected in
+      let made = subst (λ (xs : List Stmt). WritesThrough now (steps_of s.base gone xs) fin) update.changed (through s.base (may_change update s a)) in
+      accepted_through s.base (taken_by x.path x.sign x.rel x.conds s.base.stmts) sets k.catalog o old now fin new result e read.kept read.writes
+      (subst (λ (xs : List Stmt). WritesThrough now (steps_of s.base xs (map (changed_statement sets) xs)) fin) (gone_is read s a) made) said
 
-  pub update_err_writes : (after : Counts) (e : UpdateError) → Changes read mid before after w gone come (Err e) → Refuses k.catalog e mid new result
-      → WritesAsTold (Update w sign rel sets conds) (sized k before) old new result
-  update_err_writes after (change.Clash least) h said = λ s a.
-      let un = (h s.base (may_change k before old.kept read.kept w sign rel conds sets gone come fits taken kept changes s a)).untouched in
-      refused_through s.base (taken_by w sign rel conds s.base.stmts) sets k.catalog (Refused (clash_with least)) old mid new result refl (un.kept ∙ kept) (un.writes ∙ writes) said
-  update_err_writes after (change.Full what) h said = λ s a.
-      let un = (h s.base (may_change k before old.kept read.kept w sign rel conds sets gone come fits taken kept changes s a)).untouched in
-      refused_through s.base (taken_by w sign rel conds s.base.stmts) sets k.catalog (Refused (refusal.Full what)) old mid new result refl (un.kept ∙ kept) (un.writes ∙ writes) said
-  update_err_writes after change.Fault h said = λ s a. stopped_through s.base (taken_by w sign rel conds s.base.stmts) sets Fault old mid new result said
-  update_err_writes after change.Memory h said = λ s a. stopped_through s.base (taken_by w sign rel conds s.base.stmts) sets Memory old mid new result said
+  -- it is refused, and nothing was written
+  refusal_writes : (after : Counts) (r : Refusal) → ((s : State) → Agrees old.kept (sized k before) s → IsUnwritten now fin before after) → IsSaid k.catalog (Refused r) fin new result
+      → WritesAsTold (Update x.path x.sign x.rel sets x.conds) (sized k before) old new result
+  refusal_writes after r unwritten said = λ s a.
+      let un = unwritten s a in
+      refused_through s.base (taken_by x.path x.sign x.rel x.conds s.base.stmts) sets k.catalog (Refused r) old fin new result refl
+      (un.kept ∙ update.selected.kept) (un.writes ∙ update.selected.writes) said
+
+  pub update_err_writes : (after : Counts) (e : UpdateError) → Changes now fin before after x.path gone come (Err e) → Refuses k.catalog e fin new result
+      → WritesAsTold (Update x.path x.sign x.rel sets x.conds) (sized k before) old new result
+  update_err_writes after (change.Clash least) h said = refusal_writes after (clash_with least) (λ s a. (h s.base (may_change update s a)).untouched) said
+  update_err_writes after (change.Full what) h said = refusal_writes after (refusal.Full what) (λ s a. (h s.base (may_change update s a)).untouched) said
+  update_err_writes after change.Fault h said = λ s a. stopped_through s.base (taken_by x.path x.sign x.rel x.conds s.base.stmts) sets Fault old fin new result said
+  update_err_writes after change.Memory h said = λ s a. stopped_through s.base (taken_by x.path x.sign x.rel x.conds s.base.stmts) sets Memory old fin new result said
 
 -- ---- the end of a transaction
 

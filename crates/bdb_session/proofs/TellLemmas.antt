@@ -51,7 +51,7 @@ same_reads_within k old new result same = λ s a. always_ok result (λ small. (o
 -- ---- the world of a path
 
 -- the base of a state on which a session agrees is one that the tables store, with the users of the path
-agreed_users : (t : Tables) (path : List ℕ) (k : Known) (s : State) → Agrees t k s → list_all (is_user k.catalog.users) path ≡ true → HasUsers t path s.base
+pub agreed_users : (t : Tables) (path : List ℕ) (k : Known) (s : State) → Agrees t k s → list_all (is_user k.catalog.users) path ≡ true → HasUsers t path s.base
 agreed_users t path k s a own = record { base = a.base; own = sym (ap (λ (c : Catalog). list_all (is_user c.users) path) a.catalog) ∙ own }
 
 -- a reply that shows the world of a path is that of the machine

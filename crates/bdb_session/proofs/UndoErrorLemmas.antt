@@ -16,7 +16,7 @@ use Rattle.bdb_session.specs.UndoRuns.{accepts_all, replies}
 use Rattle.bdb_session.specs.Undoing.{course_of, led, next_by, next_state, outcome_by, outcome_of, stepped}
 use Rattle.bdb_session.specs.declared.course.Course.{Course}
 use Rattle.bdb_session.specs.declared.course.Course.TheVariants.{Back, Forth, Onward}
-use Rattle.bdb_session.specs.declared.event.Event.{Event}
+use Rattle.bdb_session.specs.declared.event.ScriptEvent.{ScriptEvent}
 use Rattle.bdb_session.proofs.ErrorLemmas.{IsQuietOutcome, first_told, outcome_quiet, told}
 use Rattle.bdb_session.proofs.ErrorReplies.{ok_quiet}
 use Rattle.bdb_session.proofs.ErrorValid.{bases_stay_valid}
@@ -25,12 +25,12 @@ stepped_quiet : (r : Refusal) (o : Option Timeline) → IsQuietOutcome (stepped 
 stepped_quiet r None = tt
 stepped_quiet r (Some u) = ok_quiet
 
-by_course : (k : Course) (t : Timeline) (e : Event) → HasValidBases t → IsQuietOutcome (outcome_by k t e)
+by_course : (k : Course) (t : Timeline) (e : ScriptEvent) → HasValidBases t → IsQuietOutcome (outcome_by k t e)
 by_course Back t e v = stepped_quiet NoUndo (undone t)
 by_course Forth t e v = stepped_quiet NoRedo (redone t)
 by_course Onward t e v = outcome_quiet (start_from t.now) e v.now
 
-outcomes_quiet : (t : Timeline) (e : Event) → HasValidBases t → IsQuietOutcome (outcome_of t e)
+outcomes_quiet : (t : Timeline) (e : ScriptEvent) → HasValidBases t → IsQuietOutcome (outcome_of t e)
 outcomes_quiet t e v = by_course (course_of e) t e v
 
 pub undo_refusals_are_errors : UndoRefusalsAreErrors
@@ -58,7 +58,7 @@ arrived_valid t b v w =
     cond_both (same_contents t.now b) t (moved_to b t) HasValidBases (λ e. v)
     (λ e. record { before = first_valid most_changes (t.now ∷ t.before) (v.now, v.before); now = w; ahead = tt })
 
-next_valid : (k : Course) (t : Timeline) (e : Event) → HasValidBases t → HasValidBases (next_by k t e)
+next_valid : (k : Course) (t : Timeline) (e : ScriptEvent) → HasValidBases t → HasValidBases (next_by k t e)
 next_valid Back t e v = back_valid t t.before t.now t.ahead v v.before v.now v.ahead
 next_valid Forth t e v = forth_valid t t.before t.now t.ahead v v.before v.now v.ahead
 next_valid Onward t e v = arrived_valid t (machine.next_state (start_from t.now) e).base v (bases_stay_valid (start_from t.now) e v.now)

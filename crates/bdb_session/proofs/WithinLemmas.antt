@@ -1,8 +1,10 @@
 -- What becomes of a step within a transaction.
-use Rattle.std.proofs.Common.{◌≡◌, ◌∙◌, ℕ, ◌≤◌, true, false, [], Result, Ok, Err, refl, sym, ap, subst, inl, inr, arith}
+use Rattle.std.proofs.Common.{◌≡◌, ◌∙◌, ℕ, ◌≤◌, true, false, [], Option, Result, Ok, Err, refl, sym, ap, subst, inl, inr, arith}
 use Rattle.std.proofs.lemmas.Bool.{cases_Bool, MatchBool-at_true, MatchBool-at_false}
 use Rattle.bdb_base.specs.Causes.{HasCause, Rises}
 use Rattle.bdb_base.proofs.CauseLemmas.{rose_later, rises_once}
+use Rattle.bdb_bind.specs.declared.bound.Bound.{Bound}
+use Rattle.bdb_canon.specs.declared.sizes.Counts.{Counts}
 use Rattle.bdb_keep.specs.Calls.{IsBegin, IsUndo}
 use Rattle.bdb_keep.specs.Seen.{Seen, IsStill, IsDropped, NeverFall, Unchanged, GoesOn}
 use Rattle.bdb_render.specs.declared.refusal.Refusal.{Refusal}
@@ -10,15 +12,18 @@ use Rattle.bdb_tables.specs.declared.tab.TabError.{TabError}
 use Rattle.bdb_tables.specs.declared.tab.TabError.TheVariants as tab
 use Rattle.bdb_tables.proofs.Loops.{counts_then}
 use Rattle.bdb_update.proofs.CallLemmas.{gone_itself}
+use Rattle.bdb_undo.specs.declared.change.Change.{Change}
 use Rattle.bdb_val.specs.Steps.{IsChanging}
 use Rattle.bdb_val.proofs.Calls.{HasGone, changing_err, changing_ok, changing_undone}
+use Rattle.bdb_session.specs.declared.news.News.{News}
 use Rattle.bdb_session.specs.declared.reply.Reply.{Reply}
 use Rattle.bdb_session.specs.declared.error.StopError.{StopError}
 use Rattle.bdb_session.specs.declared.error.StopError.TheVariants.{Fault, Memory}
 use Rattle.bdb_session.specs.Known.{Known, Agrees, AgreesOnSome}
+use Rattle.bdb_session.specs.Machine.{bound_outcome}
 use Rattle.bdb_session.specs.Outcome.{State, Outcome, Blank, Refused, Done, text_of, is_accepted, state_after, commit_count}
 use Rattle.bdb_session.specs.Served.{IsReply, Serves}
-use Rattle.bdb_session.specs.Within.{IsToldWithin, TellsWithin, IsSaid, IsKept, IsUndone, Closes}
+use Rattle.bdb_session.specs.Within.{IsToldWithin, TellsWithin, IsSaid, IsKept, IsUndone, Closes, catalog_by, learned, nothing_new, sized}
 use Rattle.bdb_session.proofs.ServedLemmas.{still_agrees, stop_serves, ends_well}
 
 -- ---- what is told of a step
@@ -125,6 +130,21 @@ tells_knowing outcome before now next old new (Ok r) catalog counts h = record {
   changing = h.changing;
 }
 tells_knowing outcome before now next old new (Err stop) catalog counts h = record { told = λ s a. record { reply = tt; next = tt }; changing = h.changing }
+
+-- of a command that is bound, where nothing was learned before: by what comes of a step that learns nothing, and of one that learns no names
+pub tells_unlearned : (b known : Bound) (k : Known) (news : News) (old new : Seen) (result : Result Reply StopError) → news ≡ nothing_new k → b ≡ known
+    → TellsWithin (λ s. bound_outcome s known) k k old new result → TellsWithin (λ s. bound_outcome s b) k (learned k news) old new result
+tells_unlearned b known k news old new result nothing is h =
+    tells_as (λ s. bound_outcome s b) (λ s. bound_outcome s known) k k k (learned k news) old new result (λ s. ap (bound_outcome s) is) refl (ap (learned k) nothing) h
+
+pub tells_from : (b known : Bound) (k : Known) (news : News) (counts : Counts) (change : Option Change) (old new : Seen) (result : Result Reply StopError) → news ≡ nothing_new k → b ≡ known
+    → TellsWithin (λ s. bound_outcome s known) (sized k news.counts) (sized k counts) old new result
+    → TellsWithin (λ s. bound_outcome s b) k (learned k (record news { counts = counts; change = change })) old new result
+tells_from b known k news counts change old new result nothing is h =
+    let learns = learned k (record news { counts = counts; change = change }) in
+    tells_as (λ s. bound_outcome s b) (λ s. bound_outcome s known) k (sized k news.counts) learns learns old new result (λ s. ap (bound_outcome s) is)
+    (sym (ap (λ (n : News). sized k n.counts) nothing)) refl
+    (tells_knowing (λ s. bound_outcome s known) (sized k news.counts) (sized k counts) learns old new result (ap (λ (n : News). catalog_by k.catalog n.names) nothing) refl h)
 
 -- ---- the end of a transaction
 

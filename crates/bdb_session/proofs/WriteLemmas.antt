@@ -1,18 +1,12 @@
 -- How often is written where a step is told of within a transaction, and where the transaction ends.
 use Rattle.std.proofs.Common.{◌≡◌, ◌∙◌, ℕ, ◌+◌, ◌*◌, true, false, List, length, Result, Ok, Err, OnOk, refl, ap, sym, subst, inl, inr}
 use Rattle.std.specs.FinMap as tables
-use Rattle.std.specs.List.{AllByRecursion}
 use Rattle.std.proofs.lemmas.Bool.{cases_Bool, false≢true, MatchBool-at_true, MatchBool-at_false}
 use Rattle.bdb_base.specs.Bases.{belongs}
-use Rattle.bdb_base.specs.Changes.{is_taken, taken_by}
-use Rattle.bdb_base.specs.Limits.{deepest_statement}
+use Rattle.bdb_base.specs.Changes.{taken_by}
 use Rattle.bdb_base.specs.declared.kinds.Catalog.{Catalog}
-use Rattle.bdb_base.specs.declared.kinds.Cond.{Cond}
-use Rattle.bdb_base.specs.declared.kinds.Sign.{Sign}
 use Rattle.bdb_base.specs.declared.kinds.Stmt.{Stmt}
-use Rattle.bdb_bind.specs.Fits.{fits_path}
 use Rattle.bdb_canon.specs.declared.sizes.Counts.{Counts}
-use Rattle.bdb_catalog.specs.Taking.{AreTaken}
 use Rattle.bdb_keep.specs.Calls.{IsBegin}
 use Rattle.bdb_keep.specs.Seen.{Seen}
 use Rattle.bdb_keep.specs.Tables.{Tables}
@@ -27,6 +21,7 @@ use Rattle.bdb_update.specs.declared.answer.UpdateError.TheVariants as change
 use Rattle.bdb_worlds.specs.Bounds.{EndsWithin}
 use Rattle.bdb_update.proofs.SpendLemmas.{none_within}
 use Rattle.bdb_session.specs.Bounds.{InsertsWithin, RefusedUnwritten, StandsUnwritten}
+use Rattle.bdb_session.specs.declared.change.Selection.{Selection}
 use Rattle.bdb_session.specs.declared.reply.Reply.{Reply}
 use Rattle.bdb_session.specs.declared.error.StopError.{StopError}
 use Rattle.bdb_session.specs.declared.error.StopError.TheVariants.{Fault, Memory}
@@ -34,10 +29,10 @@ use Rattle.bdb_session.specs.Known.{Known, Agrees, AgreesOnSome}
 use Rattle.bdb_session.specs.Machine.{clash_with}
 use Rattle.bdb_session.specs.Outcome.{State, Outcome, Refused, is_accepted}
 use Rattle.bdb_session.specs.Within.{IsSaid, IsStopped, Refuses, IsKept, IsUndone, Closes, sized}
-use Rattle.bdb_session.proofs.DeleteLemmas.{gone_is}
+use Rattle.bdb_session.proofs.DeleteLemmas.{HasSelected, gone_here, gone_is}
 use Rattle.bdb_session.proofs.InsertLemmas.{insert_meets}
 use Rattle.bdb_session.proofs.ServedLemmas.{still_agrees}
-use Rattle.bdb_session.proofs.TakenLemmas.{all_taken, only_one, taken_at}
+use Rattle.bdb_session.proofs.TakenLemmas.{only_one}
 
 -- ---- what is written
 
@@ -108,17 +103,13 @@ module _ (k : Known) (x : Stmt) (before after : Counts) (old mid new : Seen) (re
   err_unwritten change.Memory adds said = λ s a there. stopped_same Memory old mid new result said
 
 -- a delete of one statement
-pub one_delete_writes : (k : Known) (before : Counts) (w : List ℕ) (sign : Sign) (rel : ℕ) (conds : List Cond) (gone : List Stmt) (old read mid new : Seen) (c : Catalog) (o : Outcome)
-    (result : Result Reply StopError) → fits_path k.catalog.users deepest_statement w ≡ true → AreTaken old.kept w sign rel conds gone → read.kept ≡ old.kept → read.writes ≡ old.writes
-    → WritesForOne gone read mid (Ok tt) → IsSaid c o mid new result → (s : State) → Agrees old.kept (sized k before) s → length (taken_by w sign rel conds s.base.stmts) ≡ 1
-    → OnOk result (WritesWithinMore (length w + 2) 8 old new)
-one_delete_writes k before w sign rel conds gone old read mid new c o result fits taken kept writes one said s a single =
-    let is = gone_is k before old.kept read.kept w sign rel conds gone fits taken kept s a in
-    let here : AllByRecursion (λ (x : Stmt). x.path ≡ w) gone =
-    subst (AllByRecursion (λ (x : Stmt). x.path ≡ w)) (sym is) (all_taken (λ x. x.path ≡ w) (is_taken w sign rel conds) (taken_at w sign rel conds) s.base.stmts) in
-    let x = only_one (λ (x : Stmt). x.path ≡ w) gone here (ap length is ∙ single) in
-    let within = subst (λ (p : List ℕ). WritesWithinMore (length p + 2) 8 read mid) x.1.1 (one x.0 x.1.0) in
-    said_writes (length w + 2) 8 c o old mid new result (same_writes (length w + 2) 8 old read mid mid kept writes refl refl within) said
+pub one_delete_writes : {k : Known} {before : Counts} {x : Selection} {old now : Seen} {gone : List Stmt} (read : HasSelected k before x old now gone) (fin new : Seen) (c : Catalog)
+    (o : Outcome) (result : Result Reply StopError) → WritesForOne gone now fin (Ok tt) → IsSaid c o fin new result → (s : State) → Agrees old.kept (sized k before) s
+    → length (taken_by x.path x.sign x.rel x.conds s.base.stmts) ≡ 1 → OnOk result (WritesWithinMore (length x.path + 2) 8 old new)
+one_delete_writes {x} {old} {now} {gone} read fin new c o result one said s a single =
+    let alone = only_one (λ (y : Stmt). y.path ≡ x.path) gone (gone_here read s a) (ap length (gone_is read s a) ∙ single) in
+    let within = subst (λ (p : List ℕ). WritesWithinMore (length p + 2) 8 now fin) alone.1.1 (one alone.0 alone.1.0) in
+    said_writes (length x.path + 2) 8 c o old fin new result (same_writes (length x.path + 2) 8 old now fin fin read.kept read.writes refl refl within) said
 
 -- ---- the end of a transaction
 

@@ -14,8 +14,8 @@ use Rattle.bdb_leaving.specs.Leaving.{WritesLeaving}
 use Rattle.bdb_syntax.specs.declared.command.Command.{Command}
 use Rattle.bdb_update.specs.Bounds.{WritesWithinMore}
 use Rattle.bdb_update.specs.Steps.{WritesThrough, steps_of, steps_without}
-use Rattle.bdb_session.specs.declared.event.Event.{Event}
-use Rattle.bdb_session.specs.declared.event.Event.TheVariants as event
+use Rattle.bdb_session.specs.declared.event.ScriptEvent.{ScriptEvent}
+use Rattle.bdb_session.specs.declared.event.ScriptEvent.TheVariants as event
 use Rattle.bdb_session.specs.declared.reading.Reading.{Reading}
 use Rattle.bdb_session.specs.declared.reading.Reading.TheVariants as reading
 use Rattle.bdb_session.specs.declared.reply.Reply.{Reply}
@@ -105,7 +105,7 @@ reading_asks catalog (reading.Says c) = is_none (refusal_of catalog c)
 reading_asks catalog (reading.Refused r) = false
 
 -- an event asks for the keeper where its piece does; one that is too long, and a rest, don't
-abbrev pub asks_keeper : Catalog → Event → Bool
+abbrev pub asks_keeper : Catalog → ScriptEvent → Bool
 asks_keeper catalog (event.Piece bytes) = reading_asks catalog (reading_of bytes)
 asks_keeper catalog event.Long = false
 asks_keeper catalog event.Unfinished = false

@@ -10,7 +10,7 @@ use Rattle.bdb_undo.specs.Timelines.{Timeline, arrived, undone, redone}
 use Rattle.bdb_val.specs.Steps.{IsChanging}
 use Rattle.bdb_session.specs.declared.course.Course.{Course}
 use Rattle.bdb_session.specs.declared.course.Course.TheVariants.{Back, Forth, Onward}
-use Rattle.bdb_session.specs.declared.event.Event.{Event}
+use Rattle.bdb_session.specs.declared.event.ScriptEvent.{ScriptEvent}
 use Rattle.bdb_session.specs.declared.reply.Reply.{Reply}
 use Rattle.bdb_session.specs.declared.error.StopError.{StopError}
 use Rattle.bdb_session.specs.declared.error.StopError.TheVariants.{Fault}
@@ -34,7 +34,7 @@ pub record Follows (outcome : Timeline → Outcome) (next : Timeline → Timelin
   pub ends : Ends before now old new result
 
 -- how a session serves an event
-abbrev pub FollowsEvent : Event → Known → Known → Seen → Seen → Result Reply StopError → Type 0
+abbrev pub FollowsEvent : ScriptEvent → Known → Known → Seen → Seen → Result Reply StopError → Type 0
 FollowsEvent e before now old new result = Follows (λ t. outcome_of t e) (λ t. next_state t e) before now old new result
 
 -- the timeline after something comes of an event over the base held

@@ -15,7 +15,7 @@ use Rattle.bdb_session.specs.Machine.{accepts}
 use Rattle.bdb_session.specs.Outcome.{State}
 use Rattle.bdb_session.specs.QueryReads.{HasFewRows}
 use Rattle.bdb_session.specs.Runs.{accepts_all, after, replies}
-use Rattle.bdb_session.specs.declared.event.Event.{Event}
+use Rattle.bdb_session.specs.declared.event.ScriptEvent.{ScriptEvent}
 use Rattle.bdb_trans.specs.Bounds.{product_of}
 
 -- Whichever tables store a valid base, the plan of each safe query that fits means over them the query's answers over the base.
@@ -37,7 +37,7 @@ StoredPlansReadFew = (t : Tables) (b : Contents) (q : Query) (rows : ℕ → ℕ
     → reads_from (sight_of t) (plan_of b.catalog.rels q).steps (start_of (length q.items)) ≤ product_of (length b.catalog.users) rows 0 q.items
 
 -- A batch is whole: it tells what its events tell one after the other, as single ones, leads where they lead, and is committed once.
-pub record IsWhole (s : State) (es : List Event) : Type 0 where
+pub record IsWhole (s : State) (es : List ScriptEvent) : Type 0 where
   pub text : batch_text s es ≡ replies s es
   pub accepted : before_refused s es ≡ length es
   pub next : batch_state s es ≡ after s es
@@ -45,10 +45,10 @@ pub record IsWhole (s : State) (es : List Event) : Type 0 where
 
 -- A batch breaks off: after events that are accepted one after the other, as single ones, comes one that is refused. It tells what these
 -- tell; nothing is committed, and all is as it was.
-pub record BreaksOff (s : State) (es : List Event) : Type 0 where
-  pub front : List Event
-  pub refused : Event
-  pub rest : List Event
+pub record BreaksOff (s : State) (es : List ScriptEvent) : Type 0 where
+  pub front : List ScriptEvent
+  pub refused : ScriptEvent
+  pub rest : List ScriptEvent
   pub are : es ≡ front ++ (refused ∷ rest)
   pub are_accepted : accepts_all s front ≡ true
   pub is_refused : accepts (after s front) refused ≡ false
@@ -60,4 +60,4 @@ pub record BreaksOff (s : State) (es : List Event) : Type 0 where
 -- A batch is whole exactly where none of its events is refused, one after the other, as single ones. Else it breaks off at the first that
 -- is refused.
 abbrev pub BatchesAreWholeOrBreakOff : Type 0
-BatchesAreWholeOrBreakOff = (s : State) (es : List Event) → MatchBool (accepts_all s es) (IsWhole s es) (BreaksOff s es)
+BatchesAreWholeOrBreakOff = (s : State) (es : List ScriptEvent) → MatchBool (accepts_all s es) (IsWhole s es) (BreaksOff s es)

@@ -30,8 +30,8 @@ use Rattle.bdb_update.specs.Calls.{clash_of, with_stmts}
 use Rattle.bdb_leaving.specs.Leaving.{base_without_user}
 use Rattle.bdb_session.specs.declared.reading.Reading.{Reading}
 use Rattle.bdb_session.specs.declared.reading.Reading.TheVariants as reading
-use Rattle.bdb_session.specs.declared.event.Event.{Event}
-use Rattle.bdb_session.specs.declared.event.Event.TheVariants as event
+use Rattle.bdb_session.specs.declared.event.ScriptEvent.{ScriptEvent}
+use Rattle.bdb_session.specs.declared.event.ScriptEvent.TheVariants as event
 use Rattle.bdb_session.specs.Outcome.{State, Outcome, Blank, Refused, Done, unless, text_of, is_accepted, answer_count, state_after, commit_count}
 use Rattle.bdb_session.specs.Reading.{reading_of}
 use Rattle.bdb_session.specs.Sizes.{passed_limit, too_many}
@@ -125,7 +125,7 @@ reading_outcome s reading.Nothing = Blank
 reading_outcome s (reading.Says c) = command_outcome s c
 reading_outcome s (reading.Refused r) = Refused r
 
-abbrev pub outcome_of : State → Event → Outcome
+abbrev pub outcome_of : State → ScriptEvent → Outcome
 outcome_of s (event.Piece bytes) = reading_outcome s (reading_of bytes)
 outcome_of s event.Long = Refused refusal.Long
 outcome_of s event.Unfinished = Refused refusal.Unfinished
@@ -133,21 +133,21 @@ outcome_of s event.Unfinished = Refused refusal.Unfinished
 -- ---- the parts of what comes of an event
 
 -- the reply: empty where nothing is said
-abbrev pub reply_of : State → Event → List ℕ
+abbrev pub reply_of : State → ScriptEvent → List ℕ
 reply_of s e = text_of s.base.catalog (outcome_of s e)
 
 -- the event is accepted
-abbrev pub accepts : State → Event → Bool
+abbrev pub accepts : State → ScriptEvent → Bool
 accepts s e = is_accepted (outcome_of s e)
 
 -- how many answers it has
-abbrev pub answers_to : State → Event → ℕ
+abbrev pub answers_to : State → ScriptEvent → ℕ
 answers_to s e = answer_count (outcome_of s e)
 
 -- the state after it
-abbrev pub next_state : State → Event → State
+abbrev pub next_state : State → ScriptEvent → State
 next_state s e = state_after s (outcome_of s e)
 
 -- how often it counts: once where it says something and is accepted
-abbrev pub counts : State → Event → ℕ
+abbrev pub counts : State → ScriptEvent → ℕ
 counts s e = commit_count (outcome_of s e)

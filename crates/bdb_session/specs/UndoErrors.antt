@@ -8,7 +8,7 @@ use Rattle.bdb_session.specs.ErrorLaws.{TellsRefusal}
 use Rattle.bdb_session.specs.ErrorLines.{has_error_line}
 use Rattle.bdb_session.specs.UndoRuns.{accepts_all, replies}
 use Rattle.bdb_session.specs.Undoing.{accepts, next_state, reply_of}
-use Rattle.bdb_session.specs.declared.event.Event.{Event}
+use Rattle.bdb_session.specs.declared.event.ScriptEvent.{ScriptEvent}
 
 abbrev pub IsValidBase : Contents → Type 0
 IsValidBase b = IsValid b.catalog b.stmts
@@ -21,12 +21,12 @@ pub record HasValidBases (t : Timeline) : Type 0 where
 
 -- over valid bases an event is refused exactly where its reply begins with `error `, and exactly where a line of it does
 abbrev pub UndoRefusalsAreErrors : Type 0
-UndoRefusalsAreErrors = (t : Timeline) (e : Event) → HasValidBases t → TellsRefusal (accepts t e) (reply_of t e)
+UndoRefusalsAreErrors = (t : Timeline) (e : ScriptEvent) → HasValidBases t → TellsRefusal (accepts t e) (reply_of t e)
 
 -- whatever comes, valid bases are followed by valid ones
 abbrev pub TimelinesStayValid : Type 0
-TimelinesStayValid = (t : Timeline) (e : Event) → HasValidBases t → HasValidBases (next_state t e)
+TimelinesStayValid = (t : Timeline) (e : ScriptEvent) → HasValidBases t → HasValidBases (next_state t e)
 
 -- over valid bases one of several events is refused exactly where a line of their replies begins with `error `
 abbrev pub UndoRunsTellErrors : Type 0
-UndoRunsTellErrors = (t : Timeline) (events : List Event) → HasValidBases t → has_error_line (replies t events) ≡ not (accepts_all t events)
+UndoRunsTellErrors = (t : Timeline) (events : List ScriptEvent) → HasValidBases t → has_error_line (replies t events) ≡ not (accepts_all t events)

@@ -8,8 +8,8 @@ use Rattle.bdb_syntax.specs.declared.command.Command.TheVariants.{Undo, Redo}
 use Rattle.bdb_undo.specs.Timelines.{Timeline, arrived, undone, redone}
 use Rattle.bdb_session.specs.declared.course.Course.{Course}
 use Rattle.bdb_session.specs.declared.course.Course.TheVariants.{Back, Forth, Onward}
-use Rattle.bdb_session.specs.declared.event.Event.{Event}
-use Rattle.bdb_session.specs.declared.event.Event.TheVariants as event
+use Rattle.bdb_session.specs.declared.event.ScriptEvent.{ScriptEvent}
+use Rattle.bdb_session.specs.declared.event.ScriptEvent.TheVariants as event
 use Rattle.bdb_session.specs.declared.reading.Reading.{Reading}
 use Rattle.bdb_session.specs.declared.reading.Reading.TheVariants as reading
 use Rattle.bdb_session.specs.Machine as machine
@@ -27,7 +27,7 @@ abbrev pub course_of_reading : Reading → Course
 course_of_reading (reading.Says c) = course_of_command c
 course_of_reading _ = Onward
 
-abbrev pub course_of : Event → Course
+abbrev pub course_of : ScriptEvent → Course
 course_of (event.Piece bytes) = course_of_reading (reading_of bytes)
 course_of _ = Onward
 
@@ -39,12 +39,12 @@ stepped r None = Refused r
 stepped r (Some u) = Done ok_reply 0 (start_from u.now)
 
 -- what an event comes to by its course: back and forth go by the bases, and all else by the base held
-abbrev pub outcome_by : Course → Timeline → Event → Outcome
+abbrev pub outcome_by : Course → Timeline → ScriptEvent → Outcome
 outcome_by Back t e = stepped NoUndo (undone t)
 outcome_by Forth t e = stepped NoRedo (redone t)
 outcome_by Onward t e = machine.outcome_of (start_from t.now) e
 
-abbrev pub outcome_of : Timeline → Event → Outcome
+abbrev pub outcome_of : Timeline → ScriptEvent → Outcome
 outcome_of t e = outcome_by (course_of e) t e
 
 -- ---- where it leads
@@ -55,28 +55,28 @@ led t None = t
 led t (Some u) = u
 
 -- the timeline after an event by its course: onward it goes to the base that the machine reaches, where that is another one
-abbrev pub next_by : Course → Timeline → Event → Timeline
+abbrev pub next_by : Course → Timeline → ScriptEvent → Timeline
 next_by Back t e = led t (undone t)
 next_by Forth t e = led t (redone t)
 next_by Onward t e = arrived (machine.next_state (start_from t.now) e).base t
 
-abbrev pub next_state : Timeline → Event → Timeline
+abbrev pub next_state : Timeline → ScriptEvent → Timeline
 next_state t e = next_by (course_of e) t e
 
 -- ---- the parts of what comes of an event
 
 -- the reply: empty where nothing is said
-abbrev pub reply_of : Timeline → Event → List ℕ
+abbrev pub reply_of : Timeline → ScriptEvent → List ℕ
 reply_of t e = text_of t.now.catalog (outcome_of t e)
 
 -- the event is accepted
-abbrev pub accepts : Timeline → Event → Bool
+abbrev pub accepts : Timeline → ScriptEvent → Bool
 accepts t e = is_accepted (outcome_of t e)
 
 -- how many answers it has
-abbrev pub answers_to : Timeline → Event → ℕ
+abbrev pub answers_to : Timeline → ScriptEvent → ℕ
 answers_to t e = answer_count (outcome_of t e)
 
 -- how often it counts: once where it says something and is accepted
-abbrev pub counts : Timeline → Event → ℕ
+abbrev pub counts : Timeline → ScriptEvent → ℕ
 counts t e = commit_count (outcome_of t e)

@@ -2,7 +2,7 @@
 ghost use Rattle.std.specs.Prelude.{◌≡◌, ◌<◌, ◌≤◌, ◌^◌, [], true, false, not, length, IfOk, OnOk, OnErr};
 ghost use Rattle.bdb_base.specs.Causes.{HasCause, Rises};
 ghost use Rattle.bdb_keep.specs.Seen.{IsStill, NeverFall, Unchanged};
-ghost use Rattle.bdb_session.specs.declared.event.Event.TheVariants.{Piece};
+ghost use Rattle.bdb_session.specs.declared.event.ScriptEvent.TheVariants.{Piece};
 ghost use Rattle.bdb_session.specs.Known.{Agrees, AgreesOnSome, Remembers, RemembersSome};
 ghost use Rattle.bdb_session.specs.Machine.{bound_outcome, command_outcome, outcome_of};
 ghost use Rattle.bdb_session.specs.Outcome.{State};

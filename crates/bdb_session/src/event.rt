@@ -3,7 +3,7 @@ use bdb_base::List;
 
 /// What a script asks for, in order: its pieces, and then the rest where it holds something.
 #[derive(Drop)]
-pub enum Event {
+pub enum ScriptEvent {
     /// A piece of at most 65,536 bytes, without its semicolon.
     Piece(List<u8>),
     /// A longer piece.

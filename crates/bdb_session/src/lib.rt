@@ -30,7 +30,7 @@ mod within;
 pub use batch::BatchReply;
 pub use course::Course;
 pub use error::StopError;
-pub use event::Event;
+pub use event::ScriptEvent;
 pub use reading::{Reading, read_piece};
 pub use reply::Reply;
 pub use session::Session;

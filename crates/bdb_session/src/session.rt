@@ -2,13 +2,13 @@
 ghost use Rattle.std.specs.Prelude.{◌≡◌, ℕ, List, length, IfOk, OnOk, OnErr, true, false, is_none};
 ghost use Rattle.bdb_base.specs.Causes.{HasCause, Rises};
 ghost use Rattle.bdb_keep.specs.Seen.{IsStill, NeverFall, Unchanged};
-ghost use Rattle.bdb_session.specs.declared.event.Event.TheVariants as event;
-ghost use Rattle.bdb_session.specs.declared.event.Event.TheVariants.{Piece};
+ghost use Rattle.bdb_session.specs.declared.event.ScriptEvent.TheVariants as event;
+ghost use Rattle.bdb_session.specs.declared.event.ScriptEvent.TheVariants.{Piece};
 ghost use Rattle.bdb_session.specs.declared.reading.Reading.TheVariants as reading;
 
 use crate::course::{Course, course_of};
 use crate::error::StopError;
-use crate::event::Event;
+use crate::event::ScriptEvent;
 use crate::reading::{Reading, read_piece, says_nothing};
 use crate::refusals::refusal_from;
 use crate::reply::Reply;
@@ -132,7 +132,11 @@ impl Session {
 
     /// Answers an event of a script: a piece as `apply` does; a piece that is too long, and a rest that no semicolon
     /// ended, are refused, and leave the keeper alone.
-    pub fn answer<K: Keeper>(&mut self, keeper: &mut K, event: &Event) -> Result<Reply, StopError>
+    pub fn answer<K: Keeper>(
+        &mut self,
+        keeper: &mut K,
+        event: &ScriptEvent,
+    ) -> Result<Reply, StopError>
         requires still { IsStill (K.seen keeper.old) }
         requires agrees { RemembersSome (K.seen keeper.old).kept self.old }
         ensures text { (t : Timeline) → Remembers (K.seen keeper.old).kept self.old t
@@ -197,7 +201,11 @@ impl Session {
     }
 
     /// Answers an event of a script, with one promise for all that comes of it.
-    fn respond_to<K: Keeper>(&mut self, keeper: &mut K, event: &Event) -> Result<Reply, StopError>
+    fn respond_to<K: Keeper>(
+        &mut self,
+        keeper: &mut K,
+        event: &ScriptEvent,
+    ) -> Result<Reply, StopError>
         requires still { IsStill (K.seen keeper.old) }
         requires agrees { RemembersSome (K.seen keeper.old).kept self.old }
         ensures followed { FollowsEvent event.now self.old self.new (K.seen keeper.old)
@@ -214,9 +222,9 @@ impl Session {
         ensures spared { asks_keeper self.old.catalog event.now ≡ false → keeper.new ≡ keeper.old }
     {
         match event {
-            Event::Piece(bytes) => self.respond(keeper, bytes.as_slice()),
-            Event::Long => self.refuse(&Refusal::Long),
-            Event::Unfinished => self.refuse(&Refusal::Unfinished),
+            ScriptEvent::Piece(bytes) => self.respond(keeper, bytes.as_slice()),
+            ScriptEvent::Long => self.refuse(&Refusal::Long),
+            ScriptEvent::Unfinished => self.refuse(&Refusal::Unfinished),
         }
     }
 

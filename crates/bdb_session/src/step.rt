@@ -80,8 +80,8 @@ impl Session {
                 rel,
                 conds,
             } => {
-                let selection = Selection::new(path, sign, rel, conds);
-                self.delete(keeper, &mut news.counts, &mut news.change, &selection)
+                let about = Selection::new(path, sign, rel, conds);
+                self.delete(keeper, &mut news.counts, &mut news.change, &about)
             }
             Bound::Update {
                 path,
@@ -90,14 +90,8 @@ impl Session {
                 sets,
                 conds,
             } => {
-                let selection = Selection::new(path, sign, rel, conds);
-                self.update(
-                    keeper,
-                    &mut news.counts,
-                    &mut news.change,
-                    &selection,
-                    &sets,
-                )
+                let about = Selection::new(path, sign, rel, conds);
+                self.update(keeper, &mut news.counts, &mut news.change, &about, &sets)
             }
             Bound::Select { query } => self.select(keeper, &query),
             Bound::Explain { query } => self.explain(keeper, &query),

@@ -9,8 +9,8 @@ use Rattle.bdb_lex.specs.declared.token.Piece.TheVariants as piece
 use Rattle.bdb_session.specs.Known.{Known, Remembers, RemembersSome}
 use Rattle.bdb_session.specs.Runs.{event_of}
 use Rattle.bdb_session.specs.Undoing.{accepts, counts, next_state, reply_of}
-use Rattle.bdb_session.specs.declared.event.Event.{Event}
-use Rattle.bdb_session.specs.declared.event.Event.TheVariants as event
+use Rattle.bdb_session.specs.declared.event.ScriptEvent.{ScriptEvent}
+use Rattle.bdb_session.specs.declared.event.ScriptEvent.TheVariants as event
 use Rattle.bdb_session.specs.declared.reply.Reply.{Reply}
 use Rattle.bdb_session.specs.declared.error.StopError.{StopError}
 use Rattle.bdb_stream.specs.Carried.{Carried, by_session}
@@ -29,7 +29,7 @@ carries_none s before now first last is same a = record {
 }
 
 -- one event was carried out
-carries_one : (s : Timeline) (e : Event) (now : Known) (first last : Seen)
+carries_one : (s : Timeline) (e : ScriptEvent) (now : Known) (first last : Seen)
     → Remembers last.kept now (next_state s e) → Rises (counts s e) first.commits last.commits → Carried s (e ∷ []) now first last
 carries_one s e now first last agrees commits = record {
   agrees = agrees;
@@ -40,7 +40,7 @@ carries_one s e now first last agrees commits = record {
     and_none n = omega arith
 
 -- and the reply was written, or a part of it
-answers_one : (s : Timeline) (e : Event) (accepted : Bool) (text : List ℕ) (now : Known) (first last : Seen) (old new : Option (List ℕ)) → Carried s (e ∷ []) now first last
+answers_one : (s : Timeline) (e : ScriptEvent) (accepted : Bool) (text : List ℕ) (now : Known) (first last : Seen) (old new : Option (List ℕ)) → Carried s (e ∷ []) now first last
     → accepted ≡ accepts s e → text ≡ reply_of s e → Appends old new text → TellsAnswer by_session s e now first last old new (Ok accepted)
 answers_one s e accepted text now first last old new carried fine is written = record {
   carried = carried;
@@ -49,12 +49,12 @@ answers_one s e accepted text now first last old new carried fine is written = r
   told_fine = fine;
 }
 
-answers_part : (s : Timeline) (e : Event) (text : List ℕ) (now : Known) (first last : Seen) (old new : Option (List ℕ)) → Carried s (e ∷ []) now first last
+answers_part : (s : Timeline) (e : ScriptEvent) (text : List ℕ) (now : Known) (first last : Seen) (old new : Option (List ℕ)) → Carried s (e ∷ []) now first last
     → text ≡ reply_of s e → (k : ℕ) × (k ≤ length text) × Appends old new (take k text) → TellsAnswer by_session s e now first last old new (Err Sink)
 answers_part s e text now first last old new carried is written = (carried, (written.0, subst (λ (x : List ℕ). Appends old new (take written.0 x)) is written.2))
 
 -- what comes of an event, once what the session answered is written
-pub answers_by : (s : Timeline) (e : Event) (reply : Result Reply StopError) (before now : Known) (first last : Seen) (old new : Option (List ℕ)) (result : Result Bool RunError)
+pub answers_by : (s : Timeline) (e : ScriptEvent) (reply : Result Reply StopError) (before now : Known) (first last : Seen) (old new : Option (List ℕ)) (result : Result Bool RunError)
     → Remembers first.kept before s → OnOk reply (Remembers last.kept now (next_state s e)) → OnOk reply (Rises (counts s e) first.commits last.commits)
     → IfOk reply (λ r. r.accepted ≡ accepts s e) → IfOk reply (λ r. r.text ≡ reply_of s e) → OnErr reply (now ≡ before) → OnErr reply (Unchanged first last)
     → TellsReply reply old new result → TellsAnswer by_session s e now first last old new result

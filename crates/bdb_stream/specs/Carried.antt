@@ -1,7 +1,7 @@
 -- How the events of a script are carried out by a session one after the other.
 use Rattle.std.specs.Prelude.{ℕ, ◌+◌, List, [], ◌∷◌, refl}
 use Rattle.bdb_keep.specs.Seen.{Seen}
-use Rattle.bdb_session.specs.declared.event.Event.{Event}
+use Rattle.bdb_session.specs.declared.event.ScriptEvent.{ScriptEvent}
 use Rattle.bdb_session.specs.Known.{Known, Remembers}
 use Rattle.bdb_session.specs.Runs.{event_of, rest_events}
 use Rattle.bdb_session.specs.Undoing.{reply_of, accepts, counts, next_state}
@@ -11,7 +11,7 @@ use Rattle.bdb_stream.specs.Handling.{Handling, IsInOrder}
 use Rattle.bdb_undo.specs.Timelines.{Timeline}
 
 -- how many of these events count
-abbrev pub counted : Timeline → List Event → ℕ
+abbrev pub counted : Timeline → List ScriptEvent → ℕ
 counted s [] = 0
 counted s (e ∷ es) = counts s e + counted (next_state s e) es
 
@@ -20,7 +20,7 @@ counted s (e ∷ es) = counts s e + counted (next_state s e) es
 abbrev pub by_session : Handling Known
 by_session = record {
   Point = Timeline;
-  Asked = Event;
+  Asked = ScriptEvent;
   asked_by = event_of;
   rest_asks = rest_events;
   reply_of = reply_of;
@@ -51,5 +51,5 @@ session_in_order = record {
 
 -- A session and a keeper have come from a timeline, and from what the keeper told first, by these events: they remember the
 -- timeline after them, and there was one commit for each event that counts.
-abbrev pub Carried : Timeline → List Event → Known → Seen → Seen → Type 0
+abbrev pub Carried : Timeline → List ScriptEvent → Known → Seen → Seen → Type 0
 Carried s done session first now = handled.Carried by_session s done session first now

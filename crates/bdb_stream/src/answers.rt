@@ -7,7 +7,7 @@ ghost use Rattle.bdb_io.specs.Failure.{failed};
 ghost use Rattle.bdb_io.specs.Pieces.{WritesPiece};
 ghost use Rattle.bdb_keep.specs.Seen.{IsStill, NeverFall};
 ghost use Rattle.bdb_session.specs.Known.{Remembers, RemembersSome};
-ghost use Rattle.bdb_session.specs.declared.event.Event.TheVariants as event;
+ghost use Rattle.bdb_session.specs.declared.event.ScriptEvent.TheVariants as event;
 ghost use Rattle.bdb_undo.specs.Timelines.{Timeline};
 ghost use Rattle.bdb_stream.specs.Carried.{by_session, session_in_order};
 ghost use Rattle.bdb_stream.specs.Handled.{TellsAnswer};
@@ -20,7 +20,7 @@ use crate::stream::carry_out;
 use bdb_io::{Failed, Sink, Source};
 use bdb_keep::Keeper;
 use bdb_lex::{Piece, Rest};
-use bdb_session::{Event, Reply, Session, StopError};
+use bdb_session::{Reply, ScriptEvent, Session, StopError};
 use std::alloc::Global;
 
 /// Carries out the script that a source gives, each command as soon as the bytes are read in which it ends. Ok tells
@@ -80,7 +80,7 @@ impl Handler for Session {
                 Ok(accepted) => Ok(accepted),
                 Err(stop) => Err(stop),
             },
-            Piece::Long => match answer(self, keeper, out, &Event::Long) {
+            Piece::Long => match answer(self, keeper, out, &ScriptEvent::Long) {
                 Ok(accepted) => Ok(accepted),
                 Err(stop) => Err(stop),
             },
@@ -95,7 +95,7 @@ impl Handler for Session {
     ) -> Result<bool, RunError> {
         match rest {
             Rest::Nothing => Ok(true),
-            Rest::Unfinished => match answer(self, keeper, out, &Event::Unfinished) {
+            Rest::Unfinished => match answer(self, keeper, out, &ScriptEvent::Unfinished) {
                 Ok(accepted) => Ok(accepted),
                 Err(stop) => Err(stop),
             },
@@ -110,7 +110,7 @@ fn answer<O: Sink, K: Keeper>(
     session: &mut Session,
     keeper: &mut K,
     out: &mut O,
-    event: &Event,
+    event: &ScriptEvent,
 ) -> Result<bool, RunError>
     requires still { IsStill (K.seen keeper.old) }
     requires agrees { RemembersSome (K.seen keeper.old).kept session.old }

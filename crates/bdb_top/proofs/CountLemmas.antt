@@ -4,7 +4,7 @@ use Rattle.std.proofs.lemmas.Bool.{cases_Bool}
 use Rattle.std.proofs.lemmas.List.{take-append-drop}
 use Rattle.bdb_catalog.specs.Opening.{StandFor}
 use Rattle.bdb_keep.specs.Seen.{Seen}
-use Rattle.bdb_session.specs.declared.event.Event.{Event}
+use Rattle.bdb_session.specs.declared.event.ScriptEvent.{ScriptEvent}
 use Rattle.bdb_render.specs.declared.refusal.Refusal.{Refusal}
 use Rattle.bdb_render.specs.declared.refusal.Refusal.TheVariants.{NoUndo, NoRedo}
 use Rattle.bdb_session.specs.declared.course.Course.{Course}
@@ -34,17 +34,17 @@ no_step : (r : Refusal) (s : Timeline) (to : Option Timeline) → commit_count (
 no_step r s None h = refl
 no_step r s (Some next) h = absurd (omega (arith, h))
 
-uncounted_by : (c : Course) (s : Timeline) (e : Event) → commit_count (outcome_by c s e) ≡ 0 → next_by c s e ≡ s
+uncounted_by : (c : Course) (s : Timeline) (e : ScriptEvent) → commit_count (outcome_by c s e) ≡ 0 → next_by c s e ≡ s
 uncounted_by Back s e h = no_step NoUndo s (undone s) h
 uncounted_by Forth s e h = no_step NoRedo s (redone s) h
 uncounted_by Onward s e h =
     ap (λ (x : State). arrived x.base s) (same_by (start_from s.now) (machine.outcome_of (start_from s.now) e) h)
     ∙ staying_arrives s
 
-uncounted : (s : Timeline) (e : Event) → counts s e ≡ 0 → next_state s e ≡ s
+uncounted : (s : Timeline) (e : ScriptEvent) → counts s e ≡ 0 → next_state s e ≡ s
 uncounted s e h = uncounted_by (course_of e) s e h
 
-told : (b : Timeline) (done rest : List Event) → IsToldByCount b (done ++ rest) done (counted b done)
+told : (b : Timeline) (done rest : List ScriptEvent) → IsToldByCount b (done ++ rest) done (counted b done)
 told b done rest = record {
   state = (state_told by_session session_in_order (λ t. t) uncounted) b done rest;
   all_of = (all_told by_session session_in_order) b done rest;
@@ -52,7 +52,7 @@ told b done rest = record {
 }
 
 pub count_tells_the_state : CountTellsTheState
-count_tells_the_state b events done is = subst (λ (l : List Event). IsToldByCount b l done (counted b done)) (sym is.1) (told b done is.0)
+count_tells_the_state b events done is = subst (λ (l : List ScriptEvent). IsToldByCount b l done (counted b done)) (sym is.1) (told b done is.0)
 
 pub begins_on : (x y z : List ℕ) → BeginsWith x y → BeginsWith y z → BeginsWith x z
 begins_on x y z h k = (k.0 ++ h.0, h.1 ∙ ap (λ l. l ++ h.0) k.1 ∙ append_assoc z k.0 h.0)

@@ -13,7 +13,7 @@ use Rattle.bdb_session.specs.Outcome.{State, start_from}
 use Rattle.bdb_session.specs.Runs.{events_of}
 use Rattle.bdb_session.specs.UndoErrors.{HasValidBases}
 use Rattle.bdb_session.specs.UndoRuns.{replies as replies_to}
-use Rattle.bdb_session.specs.declared.event.Event.{Event}
+use Rattle.bdb_session.specs.declared.event.ScriptEvent.{ScriptEvent}
 use Rattle.bdb_session.proofs.OpenLemmas.{empty_is_valid}
 use Rattle.bdb_session.proofs.UndoErrorLemmas.{undo_runs_tell_errors}
 use Rattle.bdb_top.specs.Ran.{EachBase, Ran}
@@ -65,7 +65,7 @@ module _ (s : Timeline) (v : HasValidBases s) (text : List ℕ) (left : Option (
     (h : Ran s text left first now old new status) where
   all_replied : status ≤ 1 → Appends old new (replies_to s (events_of text))
   all_replied e =
-      let P : List Event → Type 0 = λ done. Appends old new (replies_to s done) in
+      let P : List ScriptEvent → Type 0 = λ done. Appends old new (replies_to s done) in
       let other : status ≢ 4 = omega arith in
       subst P (h.all e) (h.written other)
 

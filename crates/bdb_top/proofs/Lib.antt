@@ -7,4 +7,3 @@ pub mod GeneratedLemmas
 pub mod TallyLemmas
 pub mod CheckLemmas
 pub mod WordLemmas
-pub mod ManyLemmas

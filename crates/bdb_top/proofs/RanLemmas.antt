@@ -7,19 +7,18 @@ use Rattle.bdb_base.specs.Bases.{Contents}
 use Rattle.bdb_base.specs.Causes.{Rises}
 use Rattle.bdb_base.specs.Limits.{longest_script}
 use Rattle.bdb_catalog.specs.Bases.{StoresValid}
-use Rattle.bdb_catalog.specs.Opening.{StandFor}
+use Rattle.bdb_catalog.specs.Opening.{StandFor, StandForSome}
 use Rattle.bdb_keep.specs.Seen.{Seen, IsStill, Unchanged}
 use Rattle.bdb_keep.specs.Tables.{Tables}
-use Rattle.bdb_session.specs.Known.{Known, Remembers}
-use Rattle.bdb_session.specs.Opening.{opening, Opens}
-use Rattle.bdb_stream.specs.Carried.{by_session, session_in_order}
+use Rattle.bdb_session.specs.Known.{Known}
+use Rattle.bdb_session.specs.Opening.{opening}
 use Rattle.bdb_stream.specs.Handled.{Carried}
 use Rattle.bdb_stream.specs.Handling.{Handling, IsFrontOf, IsInOrder, asked_of}
 use Rattle.bdb_stream.specs.Reads.{KeepsUp, Streams, status_of}
 use Rattle.bdb_stream.specs.declared.error.RunError.{RunError}
 use Rattle.bdb_stream.specs.declared.error.RunError.TheVariants.{Source, Sink, Keeper, Memory, Large}
-use Rattle.bdb_top.specs.Ran.{EachBase, Ran, RanBy, StandsForNone, CommitsFor}
-use Rattle.bdb_undo.specs.Timelines.{Timeline, started}
+use Rattle.bdb_top.specs.Checked.{IsUntouched}
+use Rattle.bdb_top.specs.Ran.{EachBase, RanBy, StandsForNone, CommitsFor}
 
 -- the commits of events, behind that of opening
 commits_on : (k n a m z : ℕ) → Rises n a m → Rises k m z → z < 2 ^ 64 - 1 → k ≡ z - a - n
@@ -68,7 +67,7 @@ module _ {H : Type 0} (m : Handling H) (o : IsInOrder m) (base_at : m.Point → 
   nothing_written p old = subst (λ (l : List ℕ). Appends old old l) (sym (o.no_reply p)) (Appends-nil old)
 
   -- a run whose keeper was not opened
-  pub closed : (p : m.Point) (text : List ℕ) (first now : Seen) (old : Option (List ℕ)) (status : ℕ)
+  closed : (p : m.Point) (text : List ℕ) (first now : Seen) (old : Option (List ℕ)) (status : ℕ)
       → StandFor first.kept (base_at p) → IsStill now → Unchanged first now → (status ≡ 5) ⊎ (status ≡ 6) → RanBy m base_at p text (Some text) first now old old status
   closed p text first now old status stands still same is = record {
     done = [];
@@ -126,7 +125,7 @@ module _ {H : Type 0} (m : Handling H) (o : IsInOrder m) (base_at : m.Point → 
     keeps_up = keeps_up;
   }
 
-  pub ran_from : (p : m.Point) (text : List ℕ) (left : Option (List ℕ)) (session : Known) (first mid now : Seen) (old new : Option (List ℕ)) (result : Result Bool RunError)
+  ran_from : (p : m.Point) (text : List ℕ) (left : Option (List ℕ)) (session : Known) (first mid now : Seen) (old new : Option (List ℕ)) (result : Result Bool RunError)
       → Rises (opening first.kept) first.commits mid.commits → IsStill now → Streams m p (Some text) left session mid now old new result → RanBy m base_at p text left first now old new (status_of result)
   ran_from p text left session first mid now old new (Ok fine) opened still run =
       through p text left first now old new fine run.done run.all run.front (left_by p run.done session first mid now opened run.carried still) run.written run.fine run.keeps_up
@@ -155,41 +154,40 @@ module _ {H : Type 0} (m : Handling H) (o : IsInOrder m) (base_at : m.Point → 
         keeps_up = run.keeps_up;
       }
 
--- ---- for each base
+  -- ---- for each base, from the point at which a run over it starts
 
--- where the tables stand for no base there is nothing to tell of a run
+  module _ (start : Contents → m.Point) (over : (b : Contents) → base_at (start b) ≡ b) where
+    -- a run whose keeper was not opened
+    pub each_closed : (before : Option (List ℕ)) (first now : Seen) (old : Option (List ℕ)) (status : ℕ) → IsStill now → Unchanged first now → (status ≡ 5) ⊎ (status ≡ 6)
+        → IfSome before (λ text. EachBase first.kept (λ b. RanBy m base_at (start b) text before first now old old status))
+    each_closed None first now old status still same is = tt
+    each_closed (Some text) first now old status still same is = λ b stands.
+        closed (start b) text first now old status (subst (StandFor first.kept) (sym (over b)) stands) still same is
+
+    -- a run over what the source gives, by what its status is
+    pub each_run : (before left : Option (List ℕ)) (session : Known) (first mid now : Seen) (old new : Option (List ℕ)) (result : Result Bool RunError) (status : ℕ)
+        → status ≡ status_of result → Rises (opening first.kept) first.commits mid.commits → IsStill now
+        → ((b : Contents) → StandFor first.kept b → Streams m (start b) before left session mid now old new result)
+        → IfSome before (λ text. EachBase first.kept (λ b. RanBy m base_at (start b) text left first now old new status))
+    each_run None left session first mid now old new result status is opened still run = tt
+    each_run (Some text) left session first mid now old new result status is opened still run = λ b stands.
+        subst (λ (n : ℕ). RanBy m base_at (start b) text left first now old new n) (sym is)
+        (ran_from (start b) text left session first mid now old new result opened still (run b stands))
+
+-- ---- where the tables stand for no base
+
+-- there is nothing to tell of a run
 pub each_refused : (P : List ℕ → Contents → Type 0) (before : Option (List ℕ)) (t : Tables) → StandsForNone t → IfSome before (λ text. EachBase t (P text))
 each_refused P None t none = tt
 each_refused P (Some text) t none = λ b stands. absurd (none b stands)
 
--- ---- scripts
+-- tables that stand for some base don't
+pub stands_after_all : {X : Type 0} {t : Tables} → StandForSome t → StandsForNone t → X
+stands_after_all some none = absurd (none some.base some.stand)
 
-remembered : (t : Tables) (k : Known) (s : Timeline) → Remembers t k s → StoresValid t s.now
-remembered t k s h = h.agrees.base
-
--- a run whose keeper was not opened, for each base and script
-pub each_closed : (before : Option (List ℕ)) (first now : Seen) (old : Option (List ℕ)) (status : ℕ)
-    → IsStill now → Unchanged first now → (status ≡ 5) ⊎ (status ≡ 6)
-    → IfSome before (λ text. EachBase first.kept (λ b. Ran (started b) text before first now old old status))
-each_closed None first now old status still same is = tt
-each_closed (Some text) first now old status still same is = λ b stands.
-    (closed by_session session_in_order (λ t. t.now) remembered) (started b) text first now old status stands still same is
-
--- a run over what the source gives, from each base that the tables stand for
-pub each_run : (before left : Option (List ℕ)) (session next : Known) (first mid now : Seen) (old new : Option (List ℕ)) (result : Result Bool RunError)
-    → Opens first.kept mid.kept session → Rises (opening first.kept) first.commits mid.commits → IsStill now
-    → ((s : Timeline) → Remembers mid.kept session s → Streams by_session s before left next mid now old new result)
-    → IfSome before (λ text. EachBase first.kept (λ b. Ran (started b) text left first now old new (status_of result)))
-each_run None left session next first mid now old new result opens opened still run = tt
-each_run (Some text) left session next first mid now old new result opens opened still run = λ b stands.
-    (ran_from by_session session_in_order (λ t. t.now) remembered) (started b) text left next first mid now old new result opened still (run (started b) (opens b stands))
-
--- the same run, by what its status is
-pub each_status : (before left : Option (List ℕ)) (first now : Seen) (old new : Option (List ℕ)) (status number : ℕ) → status ≡ number
-    → IfSome before (λ text. EachBase first.kept (λ b. Ran (started b) text left first now old new number))
-    → IfSome before (λ text. EachBase first.kept (λ b. Ran (started b) text left first now old new status))
-each_status before left first now old new status number is ran =
-    subst (λ (n : ℕ). IfSome before (λ text. EachBase first.kept (λ b. Ran (started b) text left first now old new n))) (sym is) ran
+-- a keeper that is as it was, and to which nothing was written where they do, is untouched there
+pub untouched_there : {X : Type 0} {old new : Seen} → Unchanged old new → (X → new.writes ≡ old.writes) → X → IsUntouched old new
+untouched_there same unwritten there = record { unchanged = same; unwritten = unwritten there }
 
 -- ---- how it ends, by the status
 

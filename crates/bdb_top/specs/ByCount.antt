@@ -3,7 +3,7 @@ use Rattle.std.specs.Prelude.{◌≡◌, ◌≢◌, ℕ, ◌-◌, ◌^◌, ◌<�
 use Rattle.std.specs.Io.KnownBytes.{Appends}
 use Rattle.bdb_catalog.specs.Opening.{StandFor}
 use Rattle.bdb_keep.specs.Seen.{Seen}
-use Rattle.bdb_session.specs.declared.event.Event.{Event}
+use Rattle.bdb_session.specs.declared.event.ScriptEvent.{ScriptEvent}
 use Rattle.bdb_session.specs.Opening.{opening}
 use Rattle.bdb_undo.specs.Timelines.{Timeline}
 use Rattle.bdb_session.specs.Runs.{events_of}
@@ -17,7 +17,7 @@ BeginsWith whole front = (rest : List ℕ) × (whole ≡ front ++ rest)
 -- How a run ends, by the number k of its commits that are of events that count. The tables stand for the base after the first k.
 -- What was written is the first bytes of the replies before that of the next one. It has whole every reply before that
 -- of number k, and unless the sink failed that one too.
-pub record EndsByCount (s : Timeline) (events : List Event) (now : Seen) (old new : Option (List ℕ)) (status k : ℕ) : Type 0 where
+pub record EndsByCount (s : Timeline) (events : List ScriptEvent) (now : Seen) (old new : Option (List ℕ)) (status k : ℕ) : Type 0 where
   pub stands : StandFor now.last (after s (before_count k s events)).now
   pub text : List ℕ
   pub written : Appends old new text

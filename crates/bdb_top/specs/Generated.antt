@@ -4,7 +4,7 @@ use Rattle.std.specs.Io.KnownBytes.{Appends}
 use Rattle.bdb_base.specs.Bases.{Contents, empty_contents}
 use Rattle.bdb_canon.specs.Sizes.{counts_of}
 use Rattle.bdb_gen.specs.Scripts.{script}
-use Rattle.bdb_session.specs.declared.event.Event.{Event}
+use Rattle.bdb_session.specs.declared.event.ScriptEvent.{ScriptEvent}
 use Rattle.bdb_session.specs.Undoing.{accepts, answers_to, next_state, reply_of}
 use Rattle.bdb_undo.specs.Timelines.{Timeline, started}
 use Rattle.bdb_session.specs.Runs.{events_of}
@@ -29,11 +29,11 @@ tally_reply t text accepted answers = record {
 }
 
 -- the tally with the reply to one more event
-abbrev pub tally_with : ReplyCounts → Timeline → Event → ReplyCounts
+abbrev pub tally_with : ReplyCounts → Timeline → ScriptEvent → ReplyCounts
 tally_with t s e = tally_reply t (reply_of s e) (accepts s e) (answers_to s e)
 
 -- the tally with the replies to more events
-abbrev pub tally_from : ReplyCounts → Timeline → List Event → ReplyCounts
+abbrev pub tally_from : ReplyCounts → Timeline → List ScriptEvent → ReplyCounts
 tally_from t s [] = t
 tally_from t s (e ∷ es) = tally_from (tally_with t s e) (next_state s e) es
 
@@ -44,11 +44,11 @@ summary_text t worlds rows =
     ++ line_with (codes "rows ") rows ++ line_with (codes "answers ") t.answers
 
 -- the base after events from the empty one
-abbrev pub base_after : List Event → Contents
+abbrev pub base_after : List ScriptEvent → Contents
 base_after events = (after (started empty_contents) events).now
 
 -- the summary of events from the empty base
-abbrev pub summary_of : List Event → List ℕ
+abbrev pub summary_of : List ScriptEvent → List ℕ
 summary_of events = summary_text (tally_from no_replies (started empty_contents) events)
     (counts_of (base_after events)).worlds (counts_of (base_after events)).rows
 

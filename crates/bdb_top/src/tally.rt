@@ -7,12 +7,12 @@ ghost use Rattle.bdb_session.specs.Undoing.{next_state};
 ghost use Rattle.bdb_undo.specs.Timelines.{Timeline};
 ghost use Rattle.bdb_session.specs.Runs.{event_of, events_of, rest_events};
 ghost use Rattle.bdb_session.specs.UndoRuns.{after};
-ghost use Rattle.bdb_session.specs.declared.event.Event.TheVariants as event;
+ghost use Rattle.bdb_session.specs.declared.event.ScriptEvent.TheVariants as event;
 ghost use Rattle.bdb_top.specs.Generated.{no_replies, tally_from, tally_reply, tally_with};
 
 use bdb_keep::Keeper;
 use bdb_lex::{Cutter, Piece, Rest};
-use bdb_session::{Event, Reply, Session, StopError};
+use bdb_session::{Reply, ScriptEvent, Session, StopError};
 use std::alloc::{AllocError, Global};
 
 /// How many replies accept, how many refuse, and how many answers they have.
@@ -91,7 +91,7 @@ fn tally_piece<K: Keeper>(
             Ok(next) => Ok(next),
             Err(error) => Err(error),
         },
-        Piece::Long => match tally_event(session, keeper, tally, &Event::Long) {
+        Piece::Long => match tally_event(session, keeper, tally, &ScriptEvent::Long) {
             Ok(next) => Ok(next),
             Err(error) => Err(error),
         },
@@ -119,7 +119,7 @@ fn tally_rest<K: Keeper>(
 {
     match rest {
         Rest::Nothing => Ok(tally),
-        Rest::Unfinished => match tally_event(session, keeper, tally, &Event::Unfinished) {
+        Rest::Unfinished => match tally_event(session, keeper, tally, &ScriptEvent::Unfinished) {
             Ok(next) => Ok(next),
             Err(error) => Err(error),
         },
@@ -160,7 +160,7 @@ fn tally_event<K: Keeper>(
     session: &mut Session,
     keeper: &mut K,
     tally: ReplyCounts,
-    event: &Event,
+    event: &ScriptEvent,
 ) -> Result<ReplyCounts, StopError>
     requires still { IsStill (K.seen keeper.old) }
     requires agrees { RemembersSome (K.seen keeper.old).kept session.old }

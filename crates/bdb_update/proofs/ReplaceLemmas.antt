@@ -1,5 +1,5 @@
 -- Statements go, and others come, one after the other.
-use Rattle.std.proofs.Common.{◌≡◌, ◌∙◌, ℕ, ◌+◌, ◌≤◌, ◌<◌, Bool, true, false, nat_lt, List, [], ◌∷◌, ◌++◌, Some, None, Ok, Err, refl, ap, sym, subst, inl, inr, arith, length}
+use Rattle.std.proofs.Common.{◌≡◌, ◌∙◌, ℕ, ◌+◌, ◌≤◌, ◌<◌, Bool, true, false, nat_lt, List, [], ◌∷◌, ◌++◌, Some, None, Ok, Err, refl, ap, sym, subst, inl, inr, arith, length, drop, get_or}
 use Rattle.std.specs.Prelude.{if◌then◌else◌}
 use Rattle.std.specs.List.{list_any, list_all}
 use Rattle.std.specs.Ordering.{is_eq}
@@ -44,6 +44,7 @@ use Rattle.bdb_update.specs.declared.answer.UpdateError.TheVariants.{Clash, Full
 use Rattle.bdb_update.proofs.NextLemmas.{first_is_valid}
 use Rattle.bdb_update.proofs.ReachedLemmas.{goes_first}
 use Rattle.bdb_update.proofs.SpendLemmas.{still_within}
+use Rattle.bdb_update.proofs.StepLemmas.{at_place}
 
 -- ---- how calls end
 
@@ -87,16 +88,17 @@ pub record IsGoing (old new : Seen) (before now : Counts) (all rest : List Stmt)
 pub going_begins : (s : Seen) (c : Counts) (all : List Stmt) → HasGone s s → IsGoing s s c c all all
 going_begins s c all g = record { gone = g; left = λ b m. record { stmts = b.stmts; may = m; ends = refl; through = λ last h. h } }
 
-pub going_ends : (old new : Seen) (before now : Counts) (all : List Stmt) → IsGoing old new before now all [] → Go old.kept new.kept before now all
-going_ends old new before now all g b m =
-    let l = g.left b m in subst (λ ys. StoresSized new.kept now (with_stmts b ys)) l.ends l.may.base
+module _ (old new : Seen) (before now : Counts) (all : List Stmt) (i : ℕ) (none : drop i all ≡ [])
+    (so_far : IsGoing old new before now all (drop i all)) where
+  -- all have gone
+  all_gone : IsGoing old new before now all []
+  all_gone = subst (IsGoing old new before now all) none so_far
 
-pub gone_through : (old new : Seen) (before now : Counts) (all : List Stmt) → IsGoing old new before now all [] → GoesThrough before all old new
-gone_through old new before now all g b m = (g.left b m).through new (refl, refl)
+  pub going_ends : Go old.kept new.kept before now all
+  going_ends b m = let l = all_gone.left b m in subst (λ ys. StoresSized new.kept now (with_stmts b ys)) l.ends l.may.base
 
-pub some_left : (old new : Seen) (before now : Counts) (all : List Stmt) (x : Stmt) (rest : List Stmt) → IsGoing old new before now all (x ∷ rest) → SomeMayGo old.kept before all → SomeMayMeet new.kept now x
-some_left old new before now all x rest g s =
-    let l = g.left s.base s.may in record { base = with_stmts s.base l.stmts; may = may_meet new.kept now x rest (with_stmts s.base l.stmts) l.may }
+  pub gone_through : GoesThrough before all old new
+  gone_through b m = (all_gone.left b m).through new (refl, refl)
 
 -- how a drop went on
 went_on : (b : Contents) (x : Stmt) (old new : Seen) (c d : Counts) (r : Bool) → IsDropping b x old new c d (Ok r) → GoesOn old new
@@ -113,31 +115,47 @@ one_left b x rest old new c d true m h =
     }
 one_left b x rest old new c d false m h = absurd (false≢true (sym h.none ∙ (and_parts (stands b.stmts x) (list_all (stands b.stmts) rest) m.stand).0))
 
-pub going_more : (old mid new : Seen) (before now next : Counts) (all : List Stmt) (x : Stmt) (rest : List Stmt) (r : Bool) → SomeMayGo old.kept before all → IsGoing old mid before now all (x ∷ rest)
-    → Drops mid new now next x (Ok r) → WritesWithinMore (length x.path + 2) 8 mid new → NeverFall mid new → KeepsNumbers new.kept mid.kept → IsGoing old new before next all rest
-going_more old mid new before now next all x rest r some g d w f n =
-    let l = g.left some.base some.may in
-    let b0 = with_stmts some.base l.stmts in
-    record {
-      gone = gone_then old mid new g.gone (record { goes = went_on b0 x mid new now next r (d b0 (may_meet mid.kept now x rest b0 l.may)); counts = f });
-      left = λ b m. let k = g.left b m in let c = with_stmts b k.stmts in record {
-        stmts = without_statement k.stmts x;
-        may = one_left c x rest mid new now next r k.may (d c (may_meet mid.kept now x rest c k.may));
-        ends = k.ends;
-        through = λ last h. k.through last (new, f.writes, (one_left c x rest mid new now next r k.may (d c (may_meet mid.kept now x rest c k.may))).base.stored, inl n, w, h);
-      };
-    }
-
 drop_stops : {T : Type 0} (b : Contents) (x : Stmt) (old new : Seen) (c d : Counts) (e : TabError) → IsDropping b x old new c d (Err e) → NeverFall old new → IsChanging {T = T} {E = TabError} old new (Err e) stop.Fault
 drop_stops b x old new c d stop.Fault h f = stopped old new stop.Fault h.stopped.dropped f (λ _. h.rose)
 drop_stops b x old new c d stop.Memory h f = stopped old new stop.Memory h.dropped f (λ k. absurd cc)
 
-pub going_stops : {T : Type 0} (old mid new : Seen) (before now next : Counts) (all : List Stmt) (x : Stmt) (rest : List Stmt) (e : TabError) → SomeMayGo old.kept before all → IsGoing old mid before now all (x ∷ rest)
-    → Drops mid new now next x (Err e) → NeverFall mid new → IsChanging {T = T} {E = TabError} old new (Err e) stop.Fault
-going_stops {T} old mid new before now next all x rest e some g d f =
-    let l = g.left some.base some.may in
-    let b0 = with_stmts some.base l.stmts in
-    changing_err {T = T} {U = T} old mid new e stop.Fault g.gone (drop_stops {T = T} b0 x mid new now next e (d b0 (may_meet mid.kept now x rest b0 l.may)) f)
+-- the statement at a place goes
+module _ (old mid : Seen) (before now : Counts) (all : List Stmt) (i : ℕ) (x : Stmt) (lt : i < length all) (is : x ≡ get_or all i x)
+    (so_far : IsGoing old mid before now all (drop i all)) (some : SomeMayGo old.kept before all) where
+  goes_next : IsGoing old mid before now all (x ∷ drop (i + 1) all)
+  goes_next = at_place (IsGoing old mid before now all) all i x lt is so_far
+
+  -- it may go of whichever base is left
+  meets : (b : Contents) (m : MayGo old.kept before all b) → MayMeet mid.kept now x (with_stmts b (goes_next.left b m).stmts)
+  meets b m = let l = goes_next.left b m in may_meet mid.kept now x (drop (i + 1) all) (with_stmts b l.stmts) l.may
+
+  pub some_left : SomeMayMeet mid.kept now x
+  some_left = record { base = with_stmts some.base (goes_next.left some.base some.may).stmts; may = meets some.base some.may }
+
+  pub going_more : (new : Seen) (next : Counts) (r : Bool) → Drops mid new now next x (Ok r) → WritesWithinMore (length x.path + 2) 8 mid new
+      → NeverFall mid new → KeepsNumbers new.kept mid.kept → IsGoing old new before next all (drop (i + 1) all)
+  going_more new next r d w f n =
+      let b0 = with_stmts some.base (goes_next.left some.base some.may).stmts in
+      record {
+        gone = gone_then old mid new goes_next.gone (record { goes = went_on b0 x mid new now next r (d b0 (meets some.base some.may)); counts = f });
+        left = λ b m.
+            let k = goes_next.left b m in
+            let c = with_stmts b k.stmts in
+            let less = one_left c x (drop (i + 1) all) mid new now next r k.may (d c (meets b m)) in
+            record {
+              stmts = without_statement k.stmts x;
+              may = less;
+              ends = k.ends;
+              through = λ last h. k.through last (new, f.writes, less.base.stored, inl n, w, h);
+            };
+      }
+
+  pub going_stops : {T : Type 0} (new : Seen) (next : Counts) (e : TabError) → Drops mid new now next x (Err e) → NeverFall mid new
+      → IsChanging {T = T} {E = TabError} old new (Err e) stop.Fault
+  going_stops {T} new next e d f =
+      let b0 = with_stmts some.base (goes_next.left some.base some.may).stmts in
+      changing_err {T = T} {U = T} old mid new e stop.Fault goes_next.gone
+      (drop_stops {T = T} b0 x mid new now next e (d b0 (meets some.base some.may)) f)
 
 -- ---- a statement comes
 
@@ -190,16 +208,17 @@ pub record IsComing (old new : Seen) (before now : Counts) (all rest : List Stmt
 pub coming_begins : (s : Seen) (c : Counts) (all : List Stmt) → HasGone s s → IsComing s s c c all all
 coming_begins s c all g = record { gone = g; left = λ b m. record { stmts = b.stmts; may = m; ends = refl; through = λ last h. h } }
 
-pub coming_ends : (old new : Seen) (before now : Counts) (all : List Stmt) → IsComing old new before now all [] → Come old.kept new.kept before now all
-coming_ends old new before now all g b m =
-    let l = g.left b m in subst (λ ys. StoresSized new.kept now (with_stmts b ys)) l.ends l.may.base
+module _ (old new : Seen) (before now : Counts) (all : List Stmt) (i : ℕ) (none : drop i all ≡ [])
+    (so_far : IsComing old new before now all (drop i all)) where
+  -- all have come
+  all_came : IsComing old new before now all []
+  all_came = subst (IsComing old new before now all) none so_far
 
-pub come_through : (old new : Seen) (before now : Counts) (all : List Stmt) → IsComing old new before now all [] → ComesThrough before all old new
-come_through old new before now all g b m = (g.left b m).through new (refl, refl)
+  pub coming_ends : Come old.kept new.kept before now all
+  coming_ends b m = let l = all_came.left b m in subst (λ ys. StoresSized new.kept now (with_stmts b ys)) l.ends l.may.base
 
-pub some_to_come : (old new : Seen) (before now : Counts) (all : List Stmt) (x : Stmt) (rest : List Stmt) → IsComing old new before now all (x ∷ rest) → SomeMayCome old.kept before all → SomeMayMeet new.kept now x
-some_to_come old new before now all x rest g s =
-    let l = g.left s.base s.may in record { base = with_stmts s.base l.stmts; may = may_add new.kept now x rest (with_stmts s.base l.stmts) l.may }
+  pub come_through : ComesThrough before all old new
+  come_through b m = (all_came.left b m).through new (refl, refl)
 
 came_on : (b : Contents) (x : Stmt) (old new : Seen) (c d : Counts) (r : Added) → IsAdding b x old new c d (Ok r) → GoesOn old new
 came_on b x old new c d New h = h.becomes.goes_on
@@ -224,21 +243,6 @@ one_came b x rest old new c d Already m h =
       next = m.next;
     }
 
-pub coming_more : (old mid new : Seen) (before now next : Counts) (all : List Stmt) (x : Stmt) (rest : List Stmt) (r : Added) → SomeMayCome old.kept before all → IsComing old mid before now all (x ∷ rest)
-    → Adds mid new now next x (Ok r) → WritesWithinMore (length x.path + 2) 8 mid new → NeverFall mid new → KeepsNumbers mid.kept new.kept → IsComing old new before next all rest
-coming_more old mid new before now next all x rest r some g d w f n =
-    let l = g.left some.base some.may in
-    let b0 = with_stmts some.base l.stmts in
-    record {
-      gone = gone_then old mid new g.gone (record { goes = came_on b0 x mid new now next r (d b0 (may_add mid.kept now x rest b0 l.may)); counts = f });
-      left = λ b m. let k = g.left b m in let c = with_stmts b k.stmts in record {
-        stmts = with_statement k.stmts x;
-        may = one_came c x rest mid new now next r k.may (d c (may_add mid.kept now x rest c k.may));
-        ends = k.ends;
-        through = λ last h. k.through last (new, f.writes, (one_came c x rest mid new now next r k.may (d c (may_add mid.kept now x rest c k.may))).base.stored, inr n, w, h);
-      };
-    }
-
 -- nothing else refuses it than a fault or running out of memory
 is_stopped : (b : Contents) (x : Stmt) (rest : List Stmt) (old new : Seen) (c d : Counts) (e : UpdateError) → MayCome old.kept c (x ∷ rest) b → IsAdding b x old new c d (Err e) → is_stop e ≡ true
 is_stopped b x rest old new c d (Clash least) m h = absurd (no_clash b x least m.base.valid (with_valid old.kept c x rest b m) h.clash)
@@ -246,24 +250,54 @@ is_stopped b x rest old new c d (Full what) m h = absurd (no_limit (with_one b x
 is_stopped b x rest old new c d Fault m h = refl
 is_stopped b x rest old new c d Memory m h = refl
 
-pub coming_is_stopped : (old mid new : Seen) (before now next : Counts) (all : List Stmt) (x : Stmt) (rest : List Stmt) (e : UpdateError) → SomeMayCome old.kept before all → IsComing old mid before now all (x ∷ rest)
-    → Adds mid new now next x (Err e) → is_stop e ≡ true
-coming_is_stopped old mid new before now next all x rest e some g d =
-    let l = g.left some.base some.may in
-    let b0 = with_stmts some.base l.stmts in
-    is_stopped b0 x rest mid new now next e l.may (d b0 (may_add mid.kept now x rest b0 l.may))
-
 add_stops : {T : Type 0} (b : Contents) (x : Stmt) (old new : Seen) (c d : Counts) (e : TabError) → IsAdding b x old new c d (Err (stopped_by e)) → NeverFall old new → IsChanging {T = T} {E = TabError} old new (Err e) stop.Fault
 add_stops b x old new c d stop.Fault h f = stopped old new stop.Fault h.stopped.dropped f (λ _. h.rose)
 add_stops b x old new c d stop.Memory h f = stopped old new stop.Memory h.dropped f (λ k. absurd cc)
 
-pub coming_stops : {T : Type 0} (old mid new : Seen) (before now next : Counts) (all : List Stmt) (x : Stmt) (rest : List Stmt) (u : UpdateError) (e : TabError) → u ≡ stopped_by e → SomeMayCome old.kept before all
-    → IsComing old mid before now all (x ∷ rest) → Adds mid new now next x (Err u) → NeverFall mid new → IsChanging {T = T} {E = TabError} old new (Err e) stop.Fault
-coming_stops {T} old mid new before now next all x rest u e is some g d f =
-    let l = g.left some.base some.may in
-    let b0 = with_stmts some.base l.stmts in
-    let h : IsAdding b0 x mid new now next (Err (stopped_by e)) = subst (λ z. IsAdding b0 x mid new now next (Err z)) is (d b0 (may_add mid.kept now x rest b0 l.may)) in
-    changing_err {T = T} {U = T} old mid new e stop.Fault g.gone (add_stops {T = T} b0 x mid new now next e h f)
+-- the statement at a place comes
+module _ (old mid : Seen) (before now : Counts) (all : List Stmt) (i : ℕ) (x : Stmt) (lt : i < length all) (is : x ≡ get_or all i x)
+    (so_far : IsComing old mid before now all (drop i all)) (some : SomeMayCome old.kept before all) where
+  comes_next : IsComing old mid before now all (x ∷ drop (i + 1) all)
+  comes_next = at_place (IsComing old mid before now all) all i x lt is so_far
+
+  -- it may come into whichever base there is so far
+  adds : (b : Contents) (m : MayCome old.kept before all b) → MayMeet mid.kept now x (with_stmts b (comes_next.left b m).stmts)
+  adds b m = let l = comes_next.left b m in may_add mid.kept now x (drop (i + 1) all) (with_stmts b l.stmts) l.may
+
+  pub some_to_come : SomeMayMeet mid.kept now x
+  some_to_come = record { base = with_stmts some.base (comes_next.left some.base some.may).stmts; may = adds some.base some.may }
+
+  pub coming_more : (new : Seen) (next : Counts) (r : Added) → Adds mid new now next x (Ok r) → WritesWithinMore (length x.path + 2) 8 mid new
+      → NeverFall mid new → KeepsNumbers mid.kept new.kept → IsComing old new before next all (drop (i + 1) all)
+  coming_more new next r d w f n =
+      let b0 = with_stmts some.base (comes_next.left some.base some.may).stmts in
+      record {
+        gone = gone_then old mid new comes_next.gone (record { goes = came_on b0 x mid new now next r (d b0 (adds some.base some.may)); counts = f });
+        left = λ b m.
+            let k = comes_next.left b m in
+            let c = with_stmts b k.stmts in
+            let more = one_came c x (drop (i + 1) all) mid new now next r k.may (d c (adds b m)) in
+            record {
+              stmts = with_statement k.stmts x;
+              may = more;
+              ends = k.ends;
+              through = λ last h. k.through last (new, f.writes, more.base.stored, inr n, w, h);
+            };
+      }
+
+  pub coming_is_stopped : (new : Seen) (next : Counts) (e : UpdateError) → Adds mid new now next x (Err e) → is_stop e ≡ true
+  coming_is_stopped new next e d =
+      let l = comes_next.left some.base some.may in
+      let b0 = with_stmts some.base l.stmts in
+      is_stopped b0 x (drop (i + 1) all) mid new now next e l.may (d b0 (adds some.base some.may))
+
+  pub coming_stops : {T : Type 0} (new : Seen) (next : Counts) (u : UpdateError) (e : TabError) → u ≡ stopped_by e → Adds mid new now next x (Err u)
+      → NeverFall mid new → IsChanging {T = T} {E = TabError} old new (Err e) stop.Fault
+  coming_stops {T} new next u e why d f =
+      let b0 = with_stmts some.base (comes_next.left some.base some.may).stmts in
+      let h : IsAdding b0 x mid new now next (Err (stopped_by e)) =
+      subst (λ z. IsAdding b0 x mid new now next (Err z)) why (d b0 (adds some.base some.may)) in
+      changing_err {T = T} {U = T} old mid new e stop.Fault comes_next.gone (add_stops {T = T} b0 x mid new now next e h f)
 
 -- ---- statements go, and others come
 

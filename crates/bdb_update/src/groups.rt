@@ -17,7 +17,7 @@ use bdb_val::StoredRow;
 use std::alloc::{AllocError, Global};
 
 // A row of a world: its key, of the world, a relation, the values of the relation's key and the number of a tuple; and its mark.
-type Row = ((u32, u32, List<Value>, u32), (Sign, bool));
+type ValRow = ((u32, u32, List<Value>, u32), (Sign, bool));
 
 /// The explicit rows of a world for the tuples of a tuple's relation, whose keys have the length `n`, and its key, with
 /// their tuples, in order of their numbers. One read for each row, one more for each explicit one, and one.
@@ -68,7 +68,7 @@ fn group_prefix(alloc: Global, wid: u32, n: u32, tuple: &Tuple) -> Result<Vec<u8
 fn explicit_among<K: Keeper>(
     alloc: Global,
     keeper: &mut K,
-    entries: &[Row],
+    entries: &[ValRow],
 ) -> Result<Vec<StoredRow>, TabError>
     requires running { (K.seen keeper.old).running ≡ true }
     requires grammar { InGrammar (K.seen keeper.old).kept }
@@ -92,7 +92,7 @@ fn push_explicit<K: Keeper>(
     alloc: Global,
     keeper: &mut K,
     rows: &mut Vec<StoredRow>,
-    entry: &Row,
+    entry: &ValRow,
 ) -> Result<(), TabError>
     requires running { (K.seen keeper.old).running ≡ true }
     requires grammar { InGrammar (K.seen keeper.old).kept }

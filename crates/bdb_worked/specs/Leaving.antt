@@ -1,15 +1,12 @@
 -- A user leaves, and with her all that was said of her.
-use Rattle.std.specs.Prelude.{ℕ, List, [], ◌∷◌, codes}
+use Rattle.std.specs.Prelude.{ℕ, List, [], ◌∷◌, ◌++◌, codes}
+use Rattle.bdb_worked.specs.Worked.{reported, reported_told}
 
 -- Carol believes that Alice saw an eagle, and Alice saw a crow; Carol leaves, and another Carol comes, who has a number of her own
 abbrev pub script : List (List ℕ)
 script =
-    codes "create user 'Alice'; create user 'Bob';"
-    ∷ codes "create relation S(k text, v text);"
-    ∷ codes "create user 'Carol';"
-    ∷ codes "insert into BELIEF 'Carol' BELIEF 'Alice' S values('s1','eagle');"
-    ∷ codes "insert into BELIEF 'Alice' S values('s2','crow');"
-    ∷ codes "drop user 'Carol';"
+    reported
+    ++ codes "drop user 'Carol';"
     ∷ codes "show world BELIEF 'Carol';"
     ∷ codes "drop user 'Carol';"
     ∷ codes "show tables;"
@@ -22,13 +19,8 @@ script =
 -- the replies
 abbrev pub told : List (List ℕ)
 told =
-    codes "ok"
-    ∷ codes "ok"
-    ∷ codes "ok"
-    ∷ codes "ok"
-    ∷ codes "ok 1"
-    ∷ codes "ok 1"
-    ∷ codes "ok 1"
+    reported_told
+    ++ codes "ok 1"
     ∷ codes "error user 'Carol'"
     ∷ codes "error user 'Carol'"
     ∷ codes "user 1 'Alice'"

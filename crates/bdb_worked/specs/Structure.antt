@@ -1,26 +1,16 @@
 -- The structure that stands for all worlds.
-use Rattle.std.specs.Prelude.{ℕ, List, [], ◌∷◌, codes}
+use Rattle.std.specs.Prelude.{ℕ, List, [], ◌∷◌, ◌++◌, codes}
+use Rattle.bdb_worked.specs.Worked.{reported, reported_told}
 
--- Carol believes that Alice saw an eagle, and Alice saw a crow
+-- Carol believes that Alice saw an eagle, and Alice saw a crow; what stands for that
 abbrev pub script : List (List ℕ)
-script =
-    codes "create user 'Alice'; create user 'Bob';"
-    ∷ codes "create relation S(k text, v text);"
-    ∷ codes "create user 'Carol';"
-    ∷ codes "insert into BELIEF 'Carol' BELIEF 'Alice' S values('s1','eagle');"
-    ∷ codes "insert into BELIEF 'Alice' S values('s2','crow');"
-    ∷ codes "show tables;" ∷ []
+script = reported ++ codes "show tables;" ∷ []
 
 -- the replies, and the structure in the end
 abbrev pub told : List (List ℕ)
 told =
-    codes "ok"
-    ∷ codes "ok"
-    ∷ codes "ok"
-    ∷ codes "ok"
-    ∷ codes "ok 1"
-    ∷ codes "ok 1"
-    ∷ codes "user 1 'Alice'"
+    reported_told
+    ++ codes "user 1 'Alice'"
     ∷ codes "user 2 'Bob'"
     ∷ codes "user 3 'Carol'"
     ∷ codes "relation S(k text, v text)"

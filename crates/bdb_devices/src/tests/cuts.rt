@@ -1,13 +1,9 @@
 // Scripts that end early: the commands stand that are whole, and the rest is told of where it holds something.
 use crate::tests::{
-    End, REPLIES, SCRIPT, commands_in, ended, first_replies, parted, quiet_keeper, quiet_sink,
-    quiet_source, ran_with,
+    End, REPLIES, SCRIPT, UNFINISHED, commands_in, ended, first_replies, left_by_none, parted,
 };
 use std::alloc::Global;
 use std::test::Fail;
-
-/// What is told of a rest that holds something.
-const UNFINISHED: &[u8] = b"error unfinished\n";
 
 /// Whether something stands in a line, outside blanks and comments.
 fn holds(line: &[u8]) -> bool {
@@ -23,12 +19,7 @@ fn has_rest(script: &[u8]) -> bool {
 
 /// Whether a run of this front of the script does its commands, and tells of its rest.
 fn ends_at(alloc: Global, front: &[u8]) -> Result<bool, Fail> {
-    let left = ran_with(
-        alloc,
-        quiet_source(alloc, front)?,
-        quiet_sink(alloc)?,
-        quiet_keeper(alloc),
-    )?;
+    let left = left_by_none(alloc, front)?;
     let done = commands_in(front);
     let mut replies = Vec::from_slice(alloc, first_replies(REPLIES, done))?;
     let is_unfinished = has_rest(front);

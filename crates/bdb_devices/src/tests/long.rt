@@ -2,9 +2,7 @@
 // afterwards.
 ghost use Rattle.std.specs.Prelude.{◌≡◌, false};
 
-use crate::tests::{
-    Left, commands_in, parted, quiet_keeper, quiet_sink, quiet_source, ran_with, replies_in, told,
-};
+use crate::tests::{commands_in, left_by_none, parted, quiet_keeper, replies_in, told};
 use bdb_base::List;
 use bdb_gen::{Draws, generate};
 use bdb_memory::MemKeeper;
@@ -87,19 +85,9 @@ fn carry_out(alloc: Global, script: &[u8], pair: &mut Pair) -> Result<(u8, u32),
     Err(Fail::new("there are more faults than calls that fail"))
 }
 
-/// What an undisturbed run of a script leaves.
-fn undisturbed(alloc: Global, script: &[u8]) -> Result<Left, Fail> {
-    ran_with(
-        alloc,
-        quiet_source(alloc, script)?,
-        quiet_sink(alloc)?,
-        quiet_keeper(alloc),
-    )
-}
-
 /// Whether a script that is carried out over a keeper that fails at calls of this seed ends as an undisturbed run of it.
 fn ends_as_undisturbed(alloc: Global, script: &[u8], seed: u64) -> Result<bool, Fail> {
-    let left = undisturbed(alloc, script)?;
+    let left = left_by_none(alloc, script)?;
     let mut pair = Pair {
         keeper: MemKeeper::new(alloc, failing(alloc, seed)?),
         twin: quiet_keeper(alloc),

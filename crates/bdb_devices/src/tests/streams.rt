@@ -1,5 +1,5 @@
 // A stream of sessions of which a device fails: the batches stand that were committed, each whole, and what was told is told of these.
-use crate::tests::{Left, ROOM, left_by, only, quiet_keeper, quiet_sink};
+use crate::tests::{Left, ROOM, UNFINISHED, left_by, only, quiet_keeper, quiet_sink};
 use bdb_base::List;
 use bdb_io::{MemSink, MemSource};
 use bdb_memory::MemKeeper;
@@ -77,17 +77,25 @@ fn source_failing(alloc: Global, read: u32) -> Result<MemSource, Fail> {
     Ok(MemSource::new(stream, STEP, only(alloc, read)?))
 }
 
-/// The rows that the first pieces leave.
-fn rows_after(alloc: Global, count: usize) -> Result<MemKeeper, Fail> {
-    let source = MemSource::new(stream_of(alloc, count)?, STEP, List::new(alloc));
-    let left = left_by(
+/// What a stream leaves of which nothing fails but reads of this source.
+fn left_by_source(alloc: Global, source: MemSource) -> Result<Left, Fail> {
+    left_by(
         alloc,
         "many",
         source,
         quiet_sink(alloc)?,
         quiet_keeper(alloc),
-    )?;
-    Ok(left.keeper)
+    )
+}
+
+/// What a stream leaves of which nothing fails.
+fn left_by_none(alloc: Global, stream: Vec<u8>) -> Result<Left, Fail> {
+    left_by_source(alloc, MemSource::new(stream, STEP, List::new(alloc)))
+}
+
+/// The rows that the first pieces leave.
+fn rows_after(alloc: Global, count: usize) -> Result<MemKeeper, Fail> {
+    Ok(left_by_none(alloc, stream_of(alloc, count)?)?.keeper)
 }
 
 /// Whether the rows are those that the first pieces leave, committed as often.
@@ -204,14 +212,7 @@ fn ends_before_a_read(alloc: Global, left: &Left, read: usize) -> Result<bool, F
 fn each_read_fails_once(rt: HostRuntime) -> Result<(), Fail> {
     let alloc = rt.alloc();
     for read in 1..1_000 {
-        let source = source_failing(alloc, read)?;
-        let left = left_by(
-            alloc,
-            "many",
-            source,
-            quiet_sink(alloc)?,
-            quiet_keeper(alloc),
-        )?;
+        let left = left_by_source(alloc, source_failing(alloc, read)?)?;
         if left.status == 1 {
             assert!(rt; stands_after(alloc, &left, PIECES.len())?);
             assert!(rt; 20 < read);
@@ -226,9 +227,6 @@ fn each_read_fails_once(rt: HostRuntime) -> Result<(), Fail> {
     Ok(())
 }
 
-/// What is told of a rest that holds something.
-const UNFINISHED: &[u8] = b"error unfinished\n";
-
 /// How many of the first pieces are told without an error.
 const FINE: usize = 10;
 
@@ -240,22 +238,10 @@ fn has_rest(front: &[u8]) -> bool {
     }
 }
 
-/// What a front of the stream leaves, of which nothing fails.
-fn left_by_front(alloc: Global, front: &[u8]) -> Result<Left, Fail> {
-    let source = MemSource::new(Vec::from_slice(alloc, front)?, STEP, List::new(alloc));
-    left_by(
-        alloc,
-        "many",
-        source,
-        quiet_sink(alloc)?,
-        quiet_keeper(alloc),
-    )
-}
-
 /// Whether a run over a front of the stream tells of the pieces that end in it and of its rest, and leaves the rows of these pieces:
 /// a batch that is open is dropped.
 fn ends_at(alloc: Global, front: &[u8]) -> Result<bool, Fail> {
-    let left = left_by_front(alloc, front)?;
+    let left = left_by_none(alloc, Vec::from_slice(alloc, front)?)?;
     let count = pieces_in(front, front.len());
     let mut replies = replies_of(alloc, count)?;
     let is_unfinished = has_rest(front);

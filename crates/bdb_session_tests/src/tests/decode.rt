@@ -4,8 +4,8 @@ ghost use Rattle.std.specs.Prelude.{◌≡◌, false, IfOk};
 use bdb_base::Base;
 use bdb_decode::{OpenError, Stand, decode, stand_of};
 use bdb_memory::QuietKeeper;
-use bdb_samples::bytes_of;
-use std::alloc::Global;
+use bdb_samples::{RowChange, changes_of};
+use std::alloc::{AllocError, Global};
 use std::test::Fail;
 
 /// A user, a relation of one column and one statement of the list, as rows of the former format: a table, a key and a row each.
@@ -14,36 +14,30 @@ const FORMER: &str =
      04 00000000 0000000002733100; 05 0000000002733100 00000000; 06 00000000 00000000; \
      09 0000000000000001 00000000; 0a 000000000000000000000001 .; 0b 00000000000000000273310000000000 00000001";
 
-/// Sets a row of a keeper, told by a table, a key and a row, or takes it away where the row is a dash.
-fn set(alloc: Global, keeper: &mut QuietKeeper, line: &str) -> Result<(), Fail>
-    requires idle { keeper.old.running ≡ false }
-    ensures idle { keeper.new.running ≡ false }
+/// Gives a keeper's table a row, or takes it away.
+fn set(keeper: &mut QuietKeeper, change: &RowChange) -> Result<(), AllocError>
+    requires { keeper.old.running ≡ false }
+    ensures { keeper.new.running ≡ false }
 {
-    let mut words = line.split_whitespace();
-    let (Some(tab), Some(key), Some(row)) = (words.next(), words.next(), words.next()) else {
-        return Ok(());
-    };
-    let tab = bytes_of(alloc, tab)?.first().copied().unwrap_or(0);
-    if tab == 0 || 15 < tab {
+    if change.tab == 0 || 15 < change.tab {
         return Ok(());
     }
-    let key = bytes_of(alloc, key)?;
-    if row == "-" {
-        keeper.unset(tab, &key);
-        return Ok(());
+    match &change.row {
+        Some(row) => keeper.preset(change.tab, &change.key, row),
+        None => {
+            keeper.unset(change.tab, &change.key);
+            Ok(())
+        }
     }
-    let row = bytes_of(alloc, row)?;
-    keeper.preset(tab, &key, &row)?;
-    Ok(())
 }
 
-/// Sets the rows of a keeper that are told between semicolons.
-fn set_all(alloc: Global, keeper: &mut QuietKeeper, lines: &str) -> Result<(), Fail>
-    requires idle { keeper.old.running ≡ false }
-    ensures idle { keeper.new.running ≡ false }
+/// Carries out the changes of a line.
+fn carry_out(alloc: Global, line: &str, keeper: &mut QuietKeeper) -> Result<(), Fail>
+    requires { keeper.old.running ≡ false }
+    ensures { keeper.new.running ≡ false }
 {
-    for line in lines.split(';') {
-        set(alloc, keeper, line)?;
+    for change in changes_of(alloc, line)? {
+        set(keeper, &change)?;
     }
     Ok(())
 }
@@ -53,8 +47,8 @@ fn keeper_with(alloc: Global, changes: &str) -> Result<QuietKeeper, Fail>
     ensures idle { IfOk result (λ keeper. keeper.running ≡ false) }
 {
     let mut keeper = QuietKeeper::new(alloc);
-    set_all(alloc, &mut keeper, FORMER)?;
-    set_all(alloc, &mut keeper, changes)?;
+    carry_out(alloc, FORMER, &mut keeper)?;
+    carry_out(alloc, changes, &mut keeper)?;
     Ok(keeper)
 }
 

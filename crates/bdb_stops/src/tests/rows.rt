@@ -153,21 +153,26 @@ fn have_same_table<A: Keeper, B: Keeper>(
 
 /// A row of a table with its key. Both are empty where there is none.
 #[derive(Drop)]
-struct Row {
+struct FileRow {
     found: bool,
     key: Vec<u8>,
     content: Vec<u8>,
 }
 
 /// Whether two rows are the same.
-fn is_same_row(one: &Row, other: &Row) -> bool {
+fn is_same_row(one: &FileRow, other: &FileRow) -> bool {
     one.found == other.found
         && one.key.as_slice() == other.key.as_slice()
         && one.content.as_slice() == other.content.as_slice()
 }
 
 /// The first row of a table whose key isn't below `low`.
-fn row_from<K: Keeper>(alloc: Global, tab: u8, low: &[u8], keeper: &mut K) -> Result<Row, Fail> {
+fn row_from<K: Keeper>(
+    alloc: Global,
+    tab: u8,
+    low: &[u8],
+    keeper: &mut K,
+) -> Result<FileRow, Fail> {
     let mut key = Vec::new(alloc);
     let mut content = Vec::new(alloc);
     let found = if tab < 1 || tab > 15 {
@@ -175,7 +180,7 @@ fn row_from<K: Keeper>(alloc: Global, tab: u8, low: &[u8], keeper: &mut K) -> Re
     } else {
         keeper.next(tab, low, &mut key, &mut content)?
     };
-    Ok(Row {
+    Ok(FileRow {
         found,
         key,
         content,

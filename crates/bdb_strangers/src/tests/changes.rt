@@ -1,26 +1,25 @@
 // Changes of rows that no command makes, told by lines of digits.
-ghost use Rattle.std.specs.Prelude.{◌≡◌, Bool, false};
+ghost use Rattle.std.specs.Prelude.{◌≡◌, ◌≤◌, Bool, false};
 
 use bdb_memory::{MemKeeper, QuietKeeper};
-use bdb_samples::bytes_of;
+use bdb_samples::{RowChange, changes_of};
 use std::alloc::{AllocError, Global};
 use std::test::Fail;
-
-/// A row that a table gets, or loses.
-#[derive(Drop)]
-pub(crate) struct Change {
-    tab: u8,
-    key: Vec<u8>,
-    row: Option<Vec<u8>>,
-}
 
 /// A keeper whose rows are set as if they had been committed.
 pub(crate) trait Settable: Drop {
     // whether a transaction runs
     ghost running: { Self → Bool };
 
-    /// Gives a table a row, or takes it away.
-    fn set(&mut self, change: &Change) -> Result<(), AllocError>
+    /// Gives a table a row.
+    fn set_row(&mut self, tab: u8, key: &[u8], row: &[u8]) -> Result<(), AllocError>
+        requires table { (1 ≤ tab) × (tab ≤ 15) }
+        requires idle { running self.old ≡ false }
+        ensures idle { running self.new ≡ false };
+
+    /// Takes a row away from a table.
+    fn unset_row(&mut self, tab: u8, key: &[u8])
+        requires table { (1 ≤ tab) × (tab ≤ 15) }
         requires idle { running self.old ≡ false }
         ensures idle { running self.new ≡ false };
 }
@@ -28,62 +27,42 @@ pub(crate) trait Settable: Drop {
 impl Settable for QuietKeeper {
     ghost running = { λ k. k.running };
 
-    fn set(&mut self, change: &Change) -> Result<(), AllocError> {
-        if change.tab == 0 || 15 < change.tab {
-            return Ok(());
-        }
-        match &change.row {
-            Some(row) => self.preset(change.tab, &change.key, row),
-            None => {
-                self.unset(change.tab, &change.key);
-                Ok(())
-            }
-        }
+    fn set_row(&mut self, tab: u8, key: &[u8], row: &[u8]) -> Result<(), AllocError> {
+        self.preset(tab, key, row)
+    }
+
+    fn unset_row(&mut self, tab: u8, key: &[u8]) {
+        self.unset(tab, key);
     }
 }
 
 impl Settable for MemKeeper {
     ghost running = { λ k. k.seen.running };
 
-    fn set(&mut self, change: &Change) -> Result<(), AllocError> {
-        if change.tab == 0 || 15 < change.tab {
-            return Ok(());
-        }
-        match &change.row {
-            Some(row) => self.preset(change.tab, &change.key, row),
-            None => {
-                self.unset(change.tab, &change.key);
-                Ok(())
-            }
-        }
+    fn set_row(&mut self, tab: u8, key: &[u8], row: &[u8]) -> Result<(), AllocError> {
+        self.preset(tab, key, row)
+    }
+
+    fn unset_row(&mut self, tab: u8, key: &[u8]) {
+        self.unset(tab, key);
     }
 }
 
-/// The changes that a line tells.
-fn changes_of(alloc: Global, line: &str) -> Result<Vec<Change>, Fail> {
-    let mut changes = Vec::new(alloc);
-    for change in line.split(';') {
-        let mut words = change.split_whitespace();
-        let (Some(tab), Some(key), Some(row)) = (words.next(), words.next(), words.next()) else {
-            return Ok(changes);
-        };
-        changes.push(change_of(alloc, tab, key, row)?)?;
+/// Carries out a change; none of a table that isn't there.
+fn set<S: Settable>(keeper: &mut S, change: &RowChange) -> Result<(), AllocError>
+    requires { S.running keeper.old ≡ false }
+    ensures { S.running keeper.new ≡ false }
+{
+    if change.tab == 0 || 15 < change.tab {
+        return Ok(());
     }
-    Ok(changes)
-}
-
-/// The change of these words.
-fn change_of(alloc: Global, tab: &str, key: &str, row: &str) -> Result<Change, Fail> {
-    let tab = bytes_of(alloc, tab)?;
-    Ok(Change {
-        tab: tab.first().copied().unwrap_or(0),
-        key: bytes_of(alloc, key)?,
-        row: if row == "-" {
-            None
-        } else {
-            Some(bytes_of(alloc, row)?)
-        },
-    })
+    match &change.row {
+        Some(row) => keeper.set_row(change.tab, &change.key, row),
+        None => {
+            keeper.unset_row(change.tab, &change.key);
+            Ok(())
+        }
+    }
 }
 
 /// Carries out the changes of a line.
@@ -92,7 +71,7 @@ pub(crate) fn carry_out<S: Settable>(alloc: Global, line: &str, keeper: &mut S) 
     ensures idle { S.running keeper.new ≡ false }
 {
     for change in changes_of(alloc, line)? {
-        keeper.set(&change)?;
+        set(keeper, &change)?;
     }
     Ok(())
 }

@@ -1,9 +1,9 @@
 // Tests of the keepers in memory.
-ghost use Rattle.std.specs.Prelude.{◌≡◌, false, IfOk};
+ghost use Rattle.std.specs.Prelude.{◌≡◌, false};
 
-use bdb_base::List;
+use crate::tests::failing_at;
 use bdb_keep::{KeepError, Keeper, Span};
-use bdb_memory::{MemKeeper, QuietKeeper, Store};
+use bdb_memory::{QuietKeeper, Store};
 use std::alloc::{AllocError, Global};
 use std::test::Fail;
 
@@ -72,13 +72,6 @@ fn span_of(alloc: Global, words: &str) -> Result<Span, AllocError> {
         span.push(word.as_bytes(), word.as_bytes())?;
     }
     Ok(span)
-}
-
-fn failing_at(alloc: Global, call: u32) -> Result<MemKeeper, AllocError>
-    ensures { IfOk result (λ keeper. keeper.seen.running ≡ false) }
-{
-    let fails = Vec::from_slice(alloc, &[call])?;
-    Ok(MemKeeper::new(alloc, List::from_vec(fails)))
 }
 
 #[test]
@@ -192,11 +185,14 @@ fn a_store_lists_its_changes(rt: HostRuntime) -> Result<(), Fail> {
 }
 
 /// Keys that lie in the map itself and keys that don't, in no order and in their order.
-const KEYS: &str =
-    "bb aaaaaaaaaaaaaaaaaaaaaaaaaaaaaaaab aaaaaaaaaaaaaaaaaaaaaaaaab aaaaaaaaaaaaaaaaaaaaaaaaaaaaaaab aaaaaaaaaaaaaaaaaaaaaaaaaaaaaaaaaaaaaaaaaaa aaaaaaaaaaaaaaaaa aaaaaaaaaaaaaaaaaaaaaaaaaaaaaaaa aaaaaaaaaaaaaaaaaaaaaaaaa a";
+const KEYS: &str = "bb aaaaaaaaaaaaaaaaaaaaaaaaaaaaaaaab aaaaaaaaaaaaaaaaaaaaaaaaab \
+     aaaaaaaaaaaaaaaaaaaaaaaaaaaaaaab aaaaaaaaaaaaaaaaaaaaaaaaaaaaaaaaaaaaaaaaaaa \
+     aaaaaaaaaaaaaaaaa aaaaaaaaaaaaaaaaaaaaaaaaaaaaaaaa aaaaaaaaaaaaaaaaaaaaaaaaa a";
 
 const KEYS_IN_ORDER: &str =
-    "a aaaaaaaaaaaaaaaaa aaaaaaaaaaaaaaaaaaaaaaaaa aaaaaaaaaaaaaaaaaaaaaaaaaaaaaaaa aaaaaaaaaaaaaaaaaaaaaaaaaaaaaaaaaaaaaaaaaaa aaaaaaaaaaaaaaaaaaaaaaaaaaaaaaaab aaaaaaaaaaaaaaaaaaaaaaaaaaaaaaab aaaaaaaaaaaaaaaaaaaaaaaaab bb";
+    "a aaaaaaaaaaaaaaaaa aaaaaaaaaaaaaaaaaaaaaaaaa aaaaaaaaaaaaaaaaaaaaaaaaaaaaaaaa \
+     aaaaaaaaaaaaaaaaaaaaaaaaaaaaaaaaaaaaaaaaaaa aaaaaaaaaaaaaaaaaaaaaaaaaaaaaaaab \
+     aaaaaaaaaaaaaaaaaaaaaaaaaaaaaaab aaaaaaaaaaaaaaaaaaaaaaaaab bb";
 
 #[test]
 fn short_and_long_keys_come_in_order(rt: HostRuntime) -> Result<(), Fail> {
@@ -221,7 +217,9 @@ fn short_and_long_keys_come_in_order(rt: HostRuntime) -> Result<(), Fail> {
 
 /// Those of the keys above that begin with two of the same letter.
 const KEYS_WITH_TWO: &str =
-    "aaaaaaaaaaaaaaaaa aaaaaaaaaaaaaaaaaaaaaaaaa aaaaaaaaaaaaaaaaaaaaaaaaaaaaaaaa aaaaaaaaaaaaaaaaaaaaaaaaaaaaaaaab aaaaaaaaaaaaaaaaaaaaaaaaaaaaaaab aaaaaaaaaaaaaaaaaaaaaaaaab";
+    "aaaaaaaaaaaaaaaaa aaaaaaaaaaaaaaaaaaaaaaaaa aaaaaaaaaaaaaaaaaaaaaaaaaaaaaaaa \
+     aaaaaaaaaaaaaaaaaaaaaaaaaaaaaaaab aaaaaaaaaaaaaaaaaaaaaaaaaaaaaaab \
+     aaaaaaaaaaaaaaaaaaaaaaaaab";
 
 #[test]
 fn rows_with_one_beginning_are_read_at_once(rt: HostRuntime) -> Result<(), Fail> {

@@ -1,10 +1,8 @@
 // Tests of the count of marked rows.
-ghost use Rattle.std.specs.Prelude.{◌≡◌, ◌≤◌, false, true, OnOk, OnErr, IfOk};
+ghost use Rattle.std.specs.Prelude.{◌≡◌, ◌≤◌, false, OnOk, OnErr};
 
-use bdb_base::List;
+use crate::tests::failing_at;
 use bdb_keep::{KeepError, Keeper, KeyEnd};
-use bdb_memory::MemKeeper;
-use std::alloc::{AllocError, Global};
 use std::test::Fail;
 
 /// Keys that begin with the number 1, or 2, and end with 7, or 8; the long ones are of 33 and 36 bytes.
@@ -59,14 +57,6 @@ fn changed_and_undone<K: Keeper>(keeper: &mut K, tab: u8) -> Result<bool, KeepEr
     let gone = counts(keeper, tab, 2, 1)?;
     keeper.undo();
     Ok(stopped && begun && gone)
-}
-
-/// A keeper in memory that fails the call with this number.
-fn failing_at(alloc: Global, call: u32) -> Result<MemKeeper, AllocError>
-    ensures { IfOk result (λ keeper. keeper.seen.running ≡ false) }
-{
-    let fails = Vec::from_slice(alloc, &[call])?;
-    Ok(MemKeeper::new(alloc, List::from_vec(fails)))
 }
 
 #[test]

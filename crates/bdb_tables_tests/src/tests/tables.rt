@@ -138,6 +138,16 @@ fn lengths_of_keys<K: Keeper>(
     Ok((there, nowhere))
 }
 
+/// A keeper without rows in which a transaction runs.
+fn begun(alloc: Global) -> Result<QuietKeeper, Fail>
+    ensures running { IfOk result (λ keeper. keeper.running ≡ true) }
+    ensures grammar { IfOk result (λ keeper. InGrammar keeper.kept) }
+{
+    let mut keeper = QuietKeeper::new(alloc);
+    keeper.begin()?;
+    Ok(keeper)
+}
+
 /// A key of a row of a world, where the relation's key is a number.
 fn row_key(
     alloc: Global,
@@ -171,8 +181,7 @@ fn what_comes_next_is_found(rt: HostRuntime) -> Result<(), Fail> {
     let between = key_of(alloc, &[2], 8)?;
     let high = key_of(alloc, &[1, 2], -7)?;
     let beyond = key_of(alloc, &[1, 2], -6)?;
-    let mut keeper = QuietKeeper::new(alloc);
-    assert!(rt; keeper.begin().is_ok());
+    let mut keeper = begun(alloc)?;
     assert_eq!(rt;
         ask_next(alloc, &mut keeper, &low, &between, &high, &beyond),
         Ok(true)
@@ -183,8 +192,7 @@ fn what_comes_next_is_found(rt: HostRuntime) -> Result<(), Fail> {
 #[test]
 fn edges_of_a_world_are_found(rt: HostRuntime) -> Result<(), Fail> {
     let alloc = rt.alloc();
-    let mut keeper = QuietKeeper::new(alloc);
-    assert!(rt; keeper.begin().is_ok());
+    let mut keeper = begun(alloc)?;
     assert_eq!(rt; edges_of_a_world(alloc, &mut keeper), Ok(true));
     Ok(())
 }
@@ -195,8 +203,7 @@ fn rows_of_a_world_are_moved(rt: HostRuntime) -> Result<(), Fail> {
     let low = row_key(alloc, 1, 0, 7, 3)?;
     let high = row_key(alloc, 1, 4, 9, 5)?;
     let other = row_key(alloc, 2, 4, 9, 5)?;
-    let mut keeper = QuietKeeper::new(alloc);
-    assert!(rt; keeper.begin().is_ok());
+    let mut keeper = begun(alloc)?;
     assert_eq!(rt;
         rows_are_moved(alloc, &mut keeper, &low, &high, &other),
         Ok(true)
@@ -207,8 +214,7 @@ fn rows_of_a_world_are_moved(rt: HostRuntime) -> Result<(), Fail> {
 #[test]
 fn first_gaps_are_found(rt: HostRuntime) -> Result<(), Fail> {
     let alloc = rt.alloc();
-    let mut keeper = QuietKeeper::new(alloc);
-    assert!(rt; keeper.begin().is_ok());
+    let mut keeper = begun(alloc)?;
     assert_eq!(rt; first_gaps(alloc, &mut keeper), Ok((2, 4)));
     Ok(())
 }
@@ -218,8 +224,7 @@ fn lengths_of_keys_are_read(rt: HostRuntime) -> Result<(), Fail> {
     let alloc = rt.alloc();
     let row: &[u8] =
         b"\x02R\0\x01\x80\0\0\0\0\0\0\x02\x02a\0\x01\x80\0\0\0\0\0\0\0\x02b\0\x01\x80\0\0\0\0\0\0\x01";
-    let mut keeper = QuietKeeper::new(alloc);
-    assert!(rt; keeper.begin().is_ok());
+    let mut keeper = begun(alloc)?;
     assert_eq!(rt; lengths_of_keys(alloc, &mut keeper, row), Ok((2, 1)));
     Ok(())
 }

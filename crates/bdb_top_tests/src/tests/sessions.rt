@@ -64,7 +64,7 @@ fn next_step(steps: &mut [u64], session: usize) -> u64 {
 
 /// Lines of sessions in an order that follows from a number, and what they run, one batch behind the other.
 #[derive(Drop)]
-struct Lines {
+struct SessionLines {
     mixed: String,
     in_turn: String,
 }
@@ -73,8 +73,8 @@ struct Lines {
 const FIRST: &str = "0 create relation S(k text, v text);\n";
 
 /// The lines of a number.
-fn lines_of(alloc: Global, seed: u64) -> Result<Lines, Fail> {
-    let mut lines = Lines {
+fn lines_of(alloc: Global, seed: u64) -> Result<SessionLines, Fail> {
+    let mut lines = SessionLines {
         mixed: String::new(alloc),
         in_turn: String::new(alloc),
     };
@@ -119,7 +119,7 @@ fn are_told_alike(alloc: Global, mixed: &Left, in_turn: &Left) -> Result<bool, F
 }
 
 /// Whether the lines of a number are told what their batches are told, run one after the other, and leave the same rows.
-fn are_alike(alloc: Global, lines: &Lines) -> Result<bool, Fail> {
+fn are_alike(alloc: Global, lines: &SessionLines) -> Result<bool, Fail> {
     let mixed = ran_stream(alloc, lines.mixed.as_str())?;
     let in_turn = ran_stream(alloc, lines.in_turn.as_str())?;
     Ok(

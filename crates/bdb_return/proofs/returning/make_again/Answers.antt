@@ -1,52 +1,32 @@
-use Rattle.std.proofs.Common.{List, sym, subst}
-use Rattle.bdb_base.specs.declared.kinds.Stmt.{Stmt}
-use Rattle.bdb_update.specs.Replacing.{Come, Go, SomeMayCome, SomeMayGo}
-use Rattle.bdb_update.specs.Steps.{ComesThrough, GoesThrough}
 use Rattle.bdb_return.proofs.StepLemmas.{forth_through, some_come_forth, some_get, some_go_forth, went_forth}
 use Rattle.bdb_return.proofs.returning.make_again.Goals as goal
 
 pub drop_statements-requires-clause-base : goal.drop_statements-requires-clause-base
 drop_statements-requires-clause-base g c =
-    let t = (g.K.Keeper.seen c.args.keeper.now).kept in
-    subst (λ (xs : List Stmt). SomeMayGo t c.args.counts.now xs) (sym c.as_slice.ensures) (some_go_forth t c.args.counts.now c.args.change.now c.requires.base)
+    some_go_forth (g.K.Keeper.seen c.args.keeper.now).kept c.args.counts.now c.args.change.now c.as_slice.result.now c.as_slice.ensures
+    c.requires.base
 
 pub name_forth-requires-clause-base : goal.name_forth-requires-clause-base
 name_forth-requires-clause-base g c =
-    let t = (g.K.Keeper.seen c.args.keeper.now).kept in
-    let m = (g.K.Keeper.seen c.drop_statements.new.keeper).kept in
-    let mid = c.drop_statements.new.counts in
-    let went = subst (λ (xs : List Stmt). Go t m c.args.counts.now mid xs) c.as_slice.ensures c.in-Ok.ensures.gone in
-    some_get t c.args.counts.now c.args.change.now m mid went c.requires.base
+    some_get (g.K.Keeper.seen c.args.keeper.now).kept c.args.counts.now c.args.change.now c.as_slice.result.now c.as_slice.ensures
+    (g.K.Keeper.seen c.drop_statements.new.keeper).kept c.drop_statements.new.counts c.in-Ok.ensures.gone c.requires.base
 
 pub add_statements-requires-clause-base : goal.add_statements-requires-clause-base
 add_statements-requires-clause-base g c =
-    let t = (g.K.Keeper.seen c.args.keeper.now).kept in
-    let m = (g.K.Keeper.seen c.drop_statements.new.keeper).kept in
-    let k = (g.K.Keeper.seen c.name_forth.new.keeper).kept in
-    let mid = c.drop_statements.new.counts in
-    let went = subst (λ (xs : List Stmt). Go t m c.args.counts.now mid xs) c.as_slice.ensures c.in-Ok.ensures.gone in
-    subst (λ (xs : List Stmt). SomeMayCome k mid xs) (sym c.as_slice-2.ensures) (some_come_forth t c.args.counts.now c.args.change.now m mid went k c.in-Ok-name_forth.ensures.forth c.requires.base)
+    some_come_forth (g.K.Keeper.seen c.args.keeper.now).kept c.args.counts.now c.args.change.now c.as_slice.result.now c.as_slice.ensures
+    (g.K.Keeper.seen c.drop_statements.new.keeper).kept c.drop_statements.new.counts c.in-Ok.ensures.gone
+    (g.K.Keeper.seen c.name_forth.new.keeper).kept c.in-Ok-name_forth.ensures.forth c.as_slice-2.result.now c.as_slice-2.ensures c.requires.base
 
 pub returns-in-Ok-add_statements-clause-forth : goal.returns-in-Ok-add_statements-clause-forth
 returns-in-Ok-add_statements-clause-forth g c =
-    let t = (g.K.Keeper.seen c.args.keeper.now).kept in
-    let m = (g.K.Keeper.seen c.drop_statements.new.keeper).kept in
-    let k = (g.K.Keeper.seen c.name_forth.new.keeper).kept in
-    let u = (g.K.Keeper.seen c.add_statements.new.keeper).kept in
-    let mid = c.drop_statements.new.counts in
-    let after = c.add_statements.new.counts in
-    let went = subst (λ (xs : List Stmt). Go t m c.args.counts.now mid xs) c.as_slice.ensures c.in-Ok.ensures.gone in
-    let came = subst (λ (xs : List Stmt). Come k u mid after xs) c.as_slice-2.ensures c.in-Ok-add_statements.ensures.come in
-    went_forth t c.args.counts.now c.args.change.now m mid went k c.in-Ok-name_forth.ensures.forth u after came
+    went_forth (g.K.Keeper.seen c.args.keeper.now).kept c.args.counts.now c.args.change.now c.as_slice.result.now c.as_slice.ensures
+    (g.K.Keeper.seen c.drop_statements.new.keeper).kept c.drop_statements.new.counts c.in-Ok.ensures.gone
+    (g.K.Keeper.seen c.name_forth.new.keeper).kept c.in-Ok-name_forth.ensures.forth c.as_slice-2.result.now c.as_slice-2.ensures
+    (g.K.Keeper.seen c.add_statements.new.keeper).kept c.add_statements.new.counts c.in-Ok-add_statements.ensures.come
 
 pub returns-in-Ok-add_statements-clause-steps : goal.returns-in-Ok-add_statements-clause-steps
 returns-in-Ok-add_statements-clause-steps g c =
-    let old = g.K.Keeper.seen c.args.keeper.now in
-    let left = g.K.Keeper.seen c.drop_statements.new.keeper in
-    let named = g.K.Keeper.seen c.name_forth.new.keeper in
-    let new = g.K.Keeper.seen c.add_statements.new.keeper in
-    let mid = c.drop_statements.new.counts in
-    let went = subst (λ (xs : List Stmt). Go old.kept left.kept c.args.counts.now mid xs) c.as_slice.ensures c.in-Ok.ensures.gone in
-    let goes = subst (λ (xs : List Stmt). GoesThrough c.args.counts.now xs old left) c.as_slice.ensures c.in-Ok.ensures.steps in
-    let comes = subst (λ (xs : List Stmt). ComesThrough mid xs named new) c.as_slice-2.ensures c.in-Ok-add_statements.ensures.steps in
-    forth_through old left named new c.args.counts.now mid c.args.change.now went c.in-Ok-name_forth.ensures.forth goes c.in-Ok-name_forth.ensures.writes c.in-Ok-name_forth.ensures.keeps comes
+    forth_through (g.K.Keeper.seen c.args.keeper.now) (g.K.Keeper.seen c.drop_statements.new.keeper) (g.K.Keeper.seen c.name_forth.new.keeper)
+    (g.K.Keeper.seen c.add_statements.new.keeper) c.args.counts.now c.drop_statements.new.counts c.args.change.now
+    c.as_slice.result.now c.as_slice-2.result.now c.as_slice.ensures c.as_slice-2.ensures c.in-Ok.ensures.gone c.in-Ok-name_forth.ensures.forth
+    c.in-Ok.ensures.steps c.in-Ok-name_forth.ensures.writes c.in-Ok-name_forth.ensures.keeps c.in-Ok-add_statements.ensures.steps

@@ -1,5 +1,5 @@
 use Rattle.std.proofs.Common.{Err, Ok}
-use Rattle.bdb_session.specs.declared.event.Event.TheVariants as event
+use Rattle.bdb_session.specs.declared.event.ScriptEvent.TheVariants as event
 use Rattle.bdb_stream.proofs.AnswerLemmas.{answers_by}
 use Rattle.bdb_stream.proofs.answers.answer_command.Goals as goal
 

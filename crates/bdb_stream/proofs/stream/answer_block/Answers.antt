@@ -1,69 +1,44 @@
-use Rattle.std.proofs.Common.{◌≡◌, [], arith, ap, refl, rules}
+use Rattle.std.proofs.Common.{◌≡◌, ◌&&◌, [], arith, refl, rules}
 use Rattle.bdb_lex.specs.Cut.{EndsFirst, pieces_from, ready, start}
 use Rattle.std.proofs.KnownBytes.{Appends-nil}
-use Rattle.bdb_stream.proofs.BlockLemmas.{asked_in, come_all, come_next, next_is, state_done}
-use Rattle.bdb_stream.proofs.HandledLemmas.{comes_none, comes_stops, never_fall_on}
+use Rattle.bdb_stream.proofs.BlockLemmas.{HasAnswered, answers_one, asked_in, come_all, next_is}
+use Rattle.bdb_stream.proofs.HandledLemmas.{comes_none, comes_stops}
+use Rattle.bdb_stream.proofs.stream.answer_block.Given.{Over}
 use Rattle.bdb_stream.proofs.stream.answer_block.Goals as goal
+use Rattle.bdb_stream.proofs.stream.answer_block.Goals.{In-Ok, In-Ok-Some}
+
+-- the piece that was cut is the first of the rest
+ends : (g : Over) (c : In-Ok-Some g) → EndsFirst c.loop-piece.cutter.state c.loop-piece.rest.now c.in-Ok-Some.piece c.in-Ok-Some.others.now
+ends g c = search rules
+
+-- once it is answered, one piece more is
+answered : (g : Over) (c : In-Ok g)
+    → HasAnswered g.H.Handler.handling c.args.cutter.now.state c.args.block.now c.args.handler.now c.answer_piece.new.self (g.K.Keeper.seen c.args.keeper.now)
+    (g.K.Keeper.seen c.answer_piece.new.keeper) (g.O.Sink.written c.args.out.now) (g.O.Sink.written c.answer_piece.new.out) (g.O.Sink.faults c.args.out.now)
+    (g.O.Sink.faults c.answer_piece.new.out) (c.loop-piece.fine && c.in-Ok.more) c.next_piece.new.self c.in-Ok-Some.others.now
+answered g c =
+    let begins : c.next_piece.new.self ≡ ready start = search rules in
+    let told = c.answer_piece.ensures in
+    (answers_one g.H.Handler.handling g.met.H.Handler.in_order) c.in-Ok.more c.loop-piece.invariant (ends g (goal.at.In-Ok g c).In-Ok-Some) begins c.in-Ok.ensures.answered
+    c.in-Ok.ensures.at told.still told.never_fall told.later
 
 pub returns-in-Err-answer_piece-clause-ends : goal.returns-in-Err-answer_piece-clause-ends
 returns-in-Err-answer_piece-clause-ends g c = λ p a.
     let left = c.loop-piece.invariant.come in
     let found = c.in-Ok-Some in
     let all = asked_in g.H.Handler.handling c.args.cutter.now.state c.args.block.now in
-    let ends : EndsFirst c.loop-piece.cutter.state c.loop-piece.rest.now found.piece found.others.now = search rules in
     (comes_stops g.H.Handler.handling g.met.H.Handler.in_order) p all left.0 (g.H.Handler.handling.asked_by found.piece) (asked_in g.H.Handler.handling start found.others.now) c.loop-piece.handler c.answer_piece.new.self _ _ _ _ _ _ c.loop-piece.fine c.in-Err-answer_piece.stop
-    ((next_is g.H.Handler.handling g.met.H.Handler.in_order) all left.0 c.loop-piece.cutter.state c.loop-piece.rest.now found.others.now found.piece left.1 ends) (left.2 p a) c.in-Err-answer_piece.ensures.answered
+    ((next_is g.H.Handler.handling g.met.H.Handler.in_order) all left.0 c.loop-piece.cutter.state c.loop-piece.rest.now found.others.now found.piece left.1
+    (ends g (goal.at.returns-in-Err-answer_piece-clause-ends g c).In-Ok-Some)) (left.2 p a) c.in-Err-answer_piece.ensures.answered
 
 pub loop-piece-preserved-in-Ok : goal.loop-piece-preserved-in-Ok
-loop-piece-preserved-in-Ok g c =
-    let found = c.in-Ok-Some in
-    let cutter = c.next_piece.new.self in
-    let ends : EndsFirst c.loop-piece.cutter.state c.loop-piece.rest.now found.piece found.others.now = search rules in
-    let begins : cutter ≡ ready start = search rules in
-    record {
-      come = (come_next g.H.Handler.handling g.met.H.Handler.in_order) _ c.args.handler.now c.loop-piece.cutter.state c.loop-piece.rest.now found.others.now found.piece cutter c.loop-piece.handler c.answer_piece.new.self _ _ _ _ _ _ c.loop-piece.fine c.in-Ok.more
-          c.loop-piece.invariant.come ends begins c.in-Ok.ensures.answered;
-      state = state_done _ c.loop-piece.cutter.state c.loop-piece.rest.now found.others.now found.piece cutter c.loop-piece.invariant.state ends begins;
-      ready = ap (λ x. x.is_spent) begins;
-      still = c.answer_piece.ensures.still;
-      at = c.in-Ok.ensures.at;
-      keeper = never_fall_on _ _ _ c.loop-piece.invariant.keeper c.answer_piece.ensures.never_fall;
-      sink = omega (arith, c.answer_piece.ensures.later);
-    }
+loop-piece-preserved-in-Ok g c = answered g (goal.at.loop-piece-preserved-in-Ok g c).In-Ok
 
 pub loop-piece-preserved-in-Ok-2 : goal.loop-piece-preserved-in-Ok-2
-loop-piece-preserved-in-Ok-2 g c =
-    let found = c.in-Ok-Some in
-    let cutter = c.next_piece.new.self in
-    let ends : EndsFirst c.loop-piece.cutter.state c.loop-piece.rest.now found.piece found.others.now = search rules in
-    let begins : cutter ≡ ready start = search rules in
-    record {
-      come = (come_next g.H.Handler.handling g.met.H.Handler.in_order) _ c.args.handler.now c.loop-piece.cutter.state c.loop-piece.rest.now found.others.now found.piece cutter c.loop-piece.handler c.answer_piece.new.self _ _ _ _ _ _ c.loop-piece.fine c.in-Ok.more
-          c.loop-piece.invariant.come ends begins c.in-Ok.ensures.answered;
-      state = state_done _ c.loop-piece.cutter.state c.loop-piece.rest.now found.others.now found.piece cutter c.loop-piece.invariant.state ends begins;
-      ready = ap (λ x. x.is_spent) begins;
-      still = c.answer_piece.ensures.still;
-      at = c.in-Ok.ensures.at;
-      keeper = never_fall_on _ _ _ c.loop-piece.invariant.keeper c.answer_piece.ensures.never_fall;
-      sink = omega (arith, c.answer_piece.ensures.later);
-    }
+loop-piece-preserved-in-Ok-2 g c = answered g (goal.at.loop-piece-preserved-in-Ok-2 g c).In-Ok
 
 pub loop-piece-preserved : goal.loop-piece-preserved
-loop-piece-preserved g c =
-    let found = c.in-Ok-Some in
-    let cutter = c.next_piece.new.self in
-    let ends : EndsFirst c.loop-piece.cutter.state c.loop-piece.rest.now found.piece found.others.now = search rules in
-    let begins : cutter ≡ ready start = search rules in
-    record {
-      come = (come_next g.H.Handler.handling g.met.H.Handler.in_order) _ c.args.handler.now c.loop-piece.cutter.state c.loop-piece.rest.now found.others.now found.piece cutter c.loop-piece.handler c.answer_piece.new.self _ _ _ _ _ _ c.loop-piece.fine c.in-Ok.more
-          c.loop-piece.invariant.come ends begins c.in-Ok.ensures.answered;
-      state = state_done _ c.loop-piece.cutter.state c.loop-piece.rest.now found.others.now found.piece cutter c.loop-piece.invariant.state ends begins;
-      ready = ap (λ x. x.is_spent) begins;
-      still = c.answer_piece.ensures.still;
-      at = c.in-Ok.ensures.at;
-      keeper = never_fall_on _ _ _ c.loop-piece.invariant.keeper c.answer_piece.ensures.never_fall;
-      sink = omega (arith, c.answer_piece.ensures.later);
-    }
+loop-piece-preserved g c = answered g (goal.at.loop-piece-preserved g c).In-Ok
 
 pub loop-piece-init : goal.loop-piece-init
 loop-piece-init g c = record {

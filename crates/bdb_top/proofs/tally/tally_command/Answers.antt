@@ -1,4 +1,4 @@
-use Rattle.bdb_session.specs.declared.event.Event.TheVariants as event
+use Rattle.bdb_session.specs.declared.event.ScriptEvent.TheVariants as event
 use Rattle.bdb_top.proofs.TallyLemmas.{tallied}
 use Rattle.bdb_top.proofs.tally.tally_command.Goals as goal
 

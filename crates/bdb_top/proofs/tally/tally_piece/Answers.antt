@@ -2,7 +2,7 @@ use Rattle.std.proofs.Common.{◌≡◌, ◌∙◌, ap, sym, subst, rules}
 use Rattle.bdb_session.specs.Known.{Remembers}
 use Rattle.bdb_session.specs.Undoing.{next_state}
 use Rattle.bdb_session.specs.Runs.{event_of}
-use Rattle.bdb_session.specs.declared.event.Event.TheVariants as event
+use Rattle.bdb_session.specs.declared.event.ScriptEvent.TheVariants as event
 use Rattle.bdb_top.specs.Generated.{tally_with}
 use Rattle.bdb_top.proofs.tally.tally_piece.Goals as goal
 

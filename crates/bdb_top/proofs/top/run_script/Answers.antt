@@ -1,7 +1,9 @@
 use Rattle.std.proofs.Common.{Err, ap, inl, inr, refl}
+use Rattle.bdb_stream.specs.Carried.{by_session, session_in_order}
 use Rattle.bdb_top.proofs.EmptyLemmas.{agreed_stand}
-use Rattle.bdb_top.proofs.RanLemmas.{but_for_large, each_closed, each_refused, each_run, each_status, low_is_ok, many_if, not_seven, of_large, run_status}
+use Rattle.bdb_top.proofs.RanLemmas.{but_for_large, each_closed, each_refused, each_run, low_is_ok, many_if, not_seven, of_large, run_status, stands_after_all, untouched_there}
 use Rattle.bdb_top.proofs.top.run_script.Goals as goal
+use Rattle.bdb_undo.specs.Timelines.{started}
 
 pub returns-in-Err-Damaged-clause-ran : goal.returns-in-Err-Damaged-clause-ran
 returns-in-Err-Damaged-clause-ran g c = each_refused _ _ _ (c.in-Err-Damaged.ensures.damaged (ap Err c.in-Err-Damaged.field-0-is)).none
@@ -16,28 +18,32 @@ pub returns-in-Err-Format-clause-refused : goal.returns-in-Err-Format-clause-ref
 returns-in-Err-Format-clause-refused g c = λ _. (c.in-Err-Format.ensures.format _ (ap Err c.in-Err-Format.field-0-is)).none
 
 pub returns-in-Err-Fault-clause-ran : goal.returns-in-Err-Fault-clause-ran
-returns-in-Err-Fault-clause-ran g c = each_closed _ _ _ _ _ c.open.ensures.still c.in-Err-Fault.ensures.err (inl refl)
+returns-in-Err-Fault-clause-ran g c =
+    (each_closed by_session session_in_order (λ t. t.now) (λ t k s h. h.agrees.base) started (λ b. refl))
+    _ _ _ _ _ c.open.ensures.still c.in-Err-Fault.ensures.err (inl refl)
 
 pub returns-in-Err-Memory-clause-ran : goal.returns-in-Err-Memory-clause-ran
-returns-in-Err-Memory-clause-ran g c = each_closed _ _ _ _ _ c.open.ensures.still c.in-Err-Memory.ensures.err (inr refl)
+returns-in-Err-Memory-clause-ran g c =
+    (each_closed by_session session_in_order (λ t. t.now) (λ t k s h. h.agrees.base) started (λ b. refl))
+    _ _ _ _ _ c.open.ensures.still c.in-Err-Memory.ensures.err (inr refl)
 
 pub returns-clause-ran : goal.returns-clause-ran
 returns-clause-ran g c =
-    each_status _ _ _ _ _ _ _ _ c.status_of.ensures
-    (each_run _ _ c.in-Ok.session c.carry_out_script.new.session _ (g.K.Keeper.seen c.open.new.keeper) _ _ _ c.carry_out_script.result c.in-Ok.ensures.opened c.in-Ok.ensures.commits
-    c.carry_out_script.ensures.still c.carry_out_script.ensures.streams)
+    (each_run by_session session_in_order (λ t. t.now) (λ t k s h. h.agrees.base) started (λ b. refl))
+    _ _ c.carry_out_script.new.session _ (g.K.Keeper.seen c.open.new.keeper) _ _ _ c.carry_out_script.result _ c.status_of.ensures c.in-Ok.ensures.commits c.carry_out_script.ensures.still
+    (λ b stands. c.carry_out_script.ensures.streams (started b) (c.in-Ok.ensures.opened b stands))
 
 pub returns-clause-refused : goal.returns-clause-refused
 returns-clause-refused g c = λ e. absurd (not_seven _ c.carry_out_script.result c.status_of.ensures e)
 
 pub returns-clause-silent_source : goal.returns-clause-silent_source
-returns-clause-silent_source g c = λ none. absurd (none c.in-Ok.ensures.stand.base c.in-Ok.ensures.stand.stand)
+returns-clause-silent_source g c = stands_after_all c.in-Ok.ensures.stand
 
 pub returns-clause-silent_sink : goal.returns-clause-silent_sink
-returns-clause-silent_sink g c = λ none. absurd (none c.in-Ok.ensures.stand.base c.in-Ok.ensures.stand.stand)
+returns-clause-silent_sink g c = stands_after_all c.in-Ok.ensures.stand
 
 pub returns-clause-silent_keeper : goal.returns-clause-silent_keeper
-returns-clause-silent_keeper g c = λ none. absurd (none c.in-Ok.ensures.stand.base c.in-Ok.ensures.stand.stand)
+returns-clause-silent_keeper g c = stands_after_all c.in-Ok.ensures.stand
 
 pub returns-clause-statuses : goal.returns-clause-statuses
 returns-clause-statuses g c = (run_status _ c.carry_out_script.result c.status_of.ensures).0
@@ -61,19 +67,19 @@ pub returns-clause-one_more : goal.returns-clause-one_more
 returns-clause-one_more g c = of_large _ c.carry_out_script.result c.status_of.ensures c.carry_out_script.ensures.one_more
 
 pub returns-in-Err-Damaged-clause-silent_keeper : goal.returns-in-Err-Damaged-clause-silent_keeper
-returns-in-Err-Damaged-clause-silent_keeper g c = λ none. record { unchanged = c.in-Err-Damaged.ensures.err; unwritten = c.open.ensures.refused none }
+returns-in-Err-Damaged-clause-silent_keeper g c = untouched_there c.in-Err-Damaged.ensures.err c.open.ensures.refused
 
 pub returns-in-Err-Format-clause-silent_keeper : goal.returns-in-Err-Format-clause-silent_keeper
-returns-in-Err-Format-clause-silent_keeper g c = λ none. record { unchanged = c.in-Err-Format.ensures.err; unwritten = c.open.ensures.refused none }
+returns-in-Err-Format-clause-silent_keeper g c = untouched_there c.in-Err-Format.ensures.err c.open.ensures.refused
 
 pub returns-in-Err-Fault-clause-silent_keeper : goal.returns-in-Err-Fault-clause-silent_keeper
-returns-in-Err-Fault-clause-silent_keeper g c = λ none. record { unchanged = c.in-Err-Fault.ensures.err; unwritten = c.open.ensures.refused none }
+returns-in-Err-Fault-clause-silent_keeper g c = untouched_there c.in-Err-Fault.ensures.err c.open.ensures.refused
 
 pub returns-in-Err-Memory-clause-silent_keeper : goal.returns-in-Err-Memory-clause-silent_keeper
-returns-in-Err-Memory-clause-silent_keeper g c = λ none. record { unchanged = c.in-Err-Memory.ensures.err; unwritten = c.open.ensures.refused none }
+returns-in-Err-Memory-clause-silent_keeper g c = untouched_there c.in-Err-Memory.ensures.err c.open.ensures.refused
 
 pub returns-clause-none : goal.returns-clause-none
-returns-clause-none g c = λ none. absurd (none c.in-Ok.ensures.stand.base c.in-Ok.ensures.stand.stand)
+returns-clause-none g c = stands_after_all c.in-Ok.ensures.stand
 
 pub returns-clause-base : goal.returns-clause-base
 returns-clause-base g c = λ _. agreed_stand _ _ c.carry_out_script.ensures.agrees

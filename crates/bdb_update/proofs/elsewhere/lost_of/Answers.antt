@@ -1,8 +1,9 @@
-use Rattle.std.proofs.Common.{◌≡◌, ◌∙◌, ◌+◌, ◌∷◌, ap, sym, subst, drop}
-use Rattle.std.proofs.lemmas.List.{drop_more, drop_all}
+use Rattle.std.proofs.Common.{◌+◌, subst, drop}
+use Rattle.std.proofs.lemmas.List.{drop_all}
 use Rattle.bdb_tables.specs.declared.tab.TabError.TheVariants.{Fault}
 use Rattle.bdb_update.proofs.ElsewhereLemmas.{LostSoFar, lost_more, lost_all}
 use Rattle.bdb_update.proofs.QuietLemmas.{looking_more}
+use Rattle.bdb_update.proofs.StepLemmas.{from_place}
 use Rattle.bdb_update.proofs.elsewhere.lost_of.Goals as goal
 
 pub loop-stmt-preserved : goal.loop-stmt-preserved
@@ -10,13 +11,12 @@ loop-stmt-preserved g c =
     let old = g.K.Keeper.seen c.args.keeper.now in
     let mid = g.K.Keeper.seen c.loop-stmt.keeper in
     let gone = c.args.gone.now in
+    let i = c.loop-stmt.stmt-index in
     let x = c.stmt-item.result in
-    let rest = drop (c.loop-stmt.stmt-index + 1) gone in
     let h = c.loop-stmt.invariant in
-    let split : drop c.loop-stmt.stmt-index gone ≡ x ∷ rest = drop_more gone c.loop-stmt.stmt-index x c.loop-stmt-test.true ∙ ap (λ y. y ∷ rest) (sym c.stmt-item.is) in
     looking_more old mid (g.K.Keeper.seen c.is_lost.new.keeper) c.in-Ok.missing Fault h c.in-Ok.ensures.read
-    (lost_more old.kept mid.kept c.args.reached.now gone c.loop-stmt.stmt-index x rest c.loop-stmt.lost c.keep_if.new.kept c.in-Ok.missing h.quiet.kept split h.read
-    c.in-Ok.ensures.lost c.in-Ok-keep_if.ensures)
+    (lost_more old.kept mid.kept c.args.reached.now gone i x (drop (i + 1) gone) c.loop-stmt.lost c.keep_if.new.kept c.in-Ok.missing h.quiet.kept
+    (from_place gone i x c.loop-stmt-test.true c.stmt-item.is) h.read c.in-Ok.ensures.lost c.in-Ok-keep_if.ensures)
 
 pub returns-clause-lost : goal.returns-clause-lost
 returns-clause-lost g c =

@@ -1,7 +1,7 @@
 use Rattle.std.proofs.Common.{◌-◌, false, List, ℕ, drop, length, subst, sym, take}
 use Rattle.bdb_session.specs.Batches.{AreRun, pieces}
 use Rattle.bdb_session.specs.Machine.{next_state}
-use Rattle.bdb_session.specs.declared.event.Event.TheVariants.{Piece}
+use Rattle.bdb_session.specs.declared.event.ScriptEvent.TheVariants.{Piece}
 use Rattle.bdb_session.proofs.BatchLemmas.{empty_is, first_line, none_run, stop_lines, then_lines}
 use Rattle.bdb_session.proofs.BatchLists.{lines_alter, no_lines_alter, stop_alters}
 use Rattle.bdb_session.proofs.session.Session.+run_lines.Goals as goal

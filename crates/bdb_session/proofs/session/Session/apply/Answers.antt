@@ -1,5 +1,5 @@
 use Rattle.bdb_session.specs.Undoing.{next_state, outcome_of}
-use Rattle.bdb_session.specs.declared.event.Event.TheVariants.{Piece}
+use Rattle.bdb_session.specs.declared.event.ScriptEvent.TheVariants.{Piece}
 use Rattle.bdb_session.proofs.FollowLemmas.{remembers_after, reply_accepted, reply_answers, reply_text}
 use Rattle.bdb_session.proofs.session.Session.apply.Goals as goal
 

@@ -1,7 +1,7 @@
 use Rattle.std.proofs.Common.{◌∙◌, Ok, ap, refl, sym}
 use Rattle.bdb_session.specs.Machine.{command_outcome, outcome_of, reading_outcome}
 use Rattle.bdb_session.specs.Outcome.{state_after}
-use Rattle.bdb_session.specs.declared.event.Event.TheVariants.{Piece}
+use Rattle.bdb_session.specs.declared.event.ScriptEvent.TheVariants.{Piece}
 use Rattle.bdb_session.specs.declared.reading.Reading.{Reading}
 use Rattle.bdb_session.proofs.BatchLists.{alters_where, nothing_alters}
 use Rattle.bdb_session.proofs.WithinLemmas.{blank_tells, memory_tells, refused_tells, tells_as}

@@ -1,79 +1,69 @@
-use Rattle.std.proofs.Common.{◌∙◌, ap, refl, sym, subst}
+use Rattle.std.proofs.Common.{◌≡◌, ◌∙◌, None, ap, refl, sym}
 use Rattle.std.specs.Prelude.{is_none}
-use Rattle.std.specs.Option.{option_and_then}
 use Rattle.std.proofs.lemmas.Bool.{false≢true}
-use Rattle.bdb_base.specs.Bases.{IsCatalog}
-use Rattle.bdb_base.specs.declared.kinds.Catalog.{Catalog}
 use Rattle.bdb_bind.specs.Binding.{bound_of}
 use Rattle.bdb_bind.specs.Refusal.{refusal_of}
-use Rattle.bdb_bind.specs.Fits.{fits_catalog}
-use Rattle.bdb_bind.proofs.Fitting.{what_is_bound_fits}
-use Rattle.bdb_session.specs.Known.{Known}
-use Rattle.bdb_session.specs.Machine.{refusal_from, bound_outcome, command_outcome}
+use Rattle.bdb_session.specs.Known.{Known, Agrees}
+use Rattle.bdb_session.specs.Machine.{bound_outcome, command_outcome}
+use Rattle.bdb_session.specs.Outcome.{State, Refused}
+use Rattle.bdb_session.proofs.BindLemmas.{accepts_so, binds_fitting, binds_outcome, binds_so, refuses_outcome}
 use Rattle.bdb_session.proofs.BoundLemmas.{reads_as, writes_as, not_bound, told_unwritten, nothing_unwritten}
-use Rattle.bdb_session.proofs.OutcomeLemmas.{bound_command, unless_some, refused_to_bind}
 use Rattle.bdb_session.proofs.FollowLemmas.{moves_as, refused_moves}
 use Rattle.bdb_session.proofs.ServedLemmas.{refused_serves}
+use Rattle.bdb_session.proofs.session.Session.carry_out.Given.{Over}
 use Rattle.bdb_session.proofs.session.Session.carry_out.Goals as goal
+use Rattle.bdb_session.proofs.session.Session.carry_out.Goals.{In-Ok, In-Some}
+
+-- the session holds the catalog that it knows, and binds by it
+accepted : (g : Over) (c : In-Ok g) → refusal_of c.args.self.now.catalog c.args.command ≡ None
+accepted g c = accepts_so c.args.self.now _ (ap (λ (k : Known). k.catalog) c.self.view_is) c.args.command c.in-Ok.ensures.accepted
+
+bound : (g : Over) (c : In-Ok g) → c.in-Ok.bound ≡ bound_of c.args.self.now.catalog c.args.command
+bound g c = binds_so c.args.self.now _ (ap (λ (k : Known). k.catalog) c.self.view_is) c.args.command c.in-Ok.bound c.in-Ok.ensures.bound
+
+-- what is refused as it is bound is refused as a command
+refused : (g : Over) (c : In-Some g) (s : State) → Agrees (g.K.Keeper.seen c.args.keeper.now).kept c.args.self.now s → command_outcome s c.args.command ≡ Refused c.in-Some.refusal
+refused g c =
+    refuses_outcome c.args.self.now _ (ap (λ (k : Known). k.catalog) c.self.view_is) c.args.command _ c.in-Err.error c.in-Some.refusal c.in-Some.ensures c.in-Err.ensures.refused
+
+-- and no command is bound that is refused
+unbound : (g : Over) (c : In-Some g) → refusal_of c.args.self.now.catalog c.args.command ≡ None → ⊥
+unbound g c fine =
+    not_bound _ c.in-Err.error c.in-Some.refusal c.in-Some.ensures c.in-Err.ensures.refused (ap (λ (k : Known). refusal_of k.catalog c.args.command) c.self.view_is ∙ fine)
 
 pub execute-requires-clause-fits : goal.execute-requires-clause-fits
 execute-requires-clause-fits g c =
-    let catalog = c.args.self.now.catalog in
-    let command = c.args.command in
-    let a = c.requires.agrees.agrees in
-    let here = ap (λ (k : Known). k.catalog) c.self.view_is in
-    let valid = subst IsCatalog (sym a.catalog) a.base.valid.catalog in
-    let fine = ap (λ (k : Catalog). refusal_of k command) (sym here) ∙ c.in-Ok.ensures.accepted in
-    let bound = c.in-Ok.ensures.bound ∙ ap (λ (k : Catalog). bound_of k command) here in
-    ap (fits_catalog catalog) bound ∙ what_is_bound_fits catalog command valid c.requires.allowed fine
+    binds_fitting c.args.self.now _ (ap (λ (k : Known). k.catalog) c.self.view_is) c.args.command _ c.in-Ok.bound c.requires.agrees c.requires.allowed
+    c.in-Ok.ensures.accepted c.in-Ok.ensures.bound
 
 pub returns-in-Some-clause-served : goal.returns-in-Some-clause-served
 returns-in-Some-clause-served g c =
-    let command = c.args.command in
-    let here = ap (λ (k : Known). k.catalog) c.self.view_is in
-    refused_serves (λ s. command_outcome s command) c.in-Some.refusal c.args.self.now _ c.refuse.result
-    (λ s a. unless_some (option_and_then refusal_from (refusal_of s.base.catalog command)) c.in-Some.refusal (bound_outcome s (bound_of s.base.catalog command))
-    (refused_to_bind (refusal_of s.base.catalog command) c.in-Err.error c.in-Some.refusal c.in-Some.ensures
-    (λ other. ap (λ (k : Catalog). refusal_of k command) (sym (here ∙ a.catalog)) ∙ c.in-Err.ensures.refused other)))
+    refused_serves (λ s. command_outcome s c.args.command) c.in-Some.refusal c.args.self.now _ c.refuse.result (refused g (goal.at.returns-in-Some-clause-served g c).In-Some)
     c.requires.still c.refuse.ensures
 
 pub returns-in-Ok-clause-remembers : goal.returns-in-Ok-clause-remembers
 returns-in-Ok-clause-remembers g c =
-    let command = c.args.command in
-    let here = ap (λ (k : Known). k.catalog) c.self.view_is in
-    moves_as (λ s. command_outcome s command) (λ s. bound_outcome s c.in-Ok.bound) c.args.self.now c.execute.new.self (g.K.Keeper.seen c.args.keeper.now) (g.K.Keeper.seen c.execute.new.keeper)
-    c.execute.result
-    (λ s a. bound_command s command c.in-Ok.bound (ap (λ (k : Catalog). refusal_of k command) (sym (here ∙ a.catalog)) ∙ c.in-Ok.ensures.accepted)
-    (c.in-Ok.ensures.bound ∙ ap (λ (k : Catalog). bound_of k command) (here ∙ a.catalog))) c.execute.ensures.remembers
+    moves_as (λ s. command_outcome s c.args.command) (λ s. bound_outcome s c.in-Ok.bound) c.args.self.now c.execute.new.self (g.K.Keeper.seen c.args.keeper.now)
+    (g.K.Keeper.seen c.execute.new.keeper) c.execute.result
+    (binds_outcome c.args.self.now _ (ap (λ (k : Known). k.catalog) c.self.view_is) c.args.command _ c.in-Ok.bound c.in-Ok.ensures.accepted
+    c.in-Ok.ensures.bound) c.execute.ensures.remembers
 
 pub returns-in-Some-clause-remembers : goal.returns-in-Some-clause-remembers
 returns-in-Some-clause-remembers g c =
-    let command = c.args.command in
-    let here = ap (λ (k : Known). k.catalog) c.self.view_is in
-    refused_moves (λ s. command_outcome s command) c.in-Some.refusal c.args.self.now (g.K.Keeper.seen c.args.keeper.now) (g.K.Keeper.seen c.args.keeper.now) c.refuse.result refl
-    (λ s a. unless_some (option_and_then refusal_from (refusal_of s.base.catalog command)) c.in-Some.refusal (bound_outcome s (bound_of s.base.catalog command))
-    (refused_to_bind (refusal_of s.base.catalog command) c.in-Err.error c.in-Some.refusal c.in-Some.ensures
-    (λ other. ap (λ (k : Catalog). refusal_of k command) (sym (here ∙ a.catalog)) ∙ c.in-Err.ensures.refused other)))
+    let old = g.K.Keeper.seen c.args.keeper.now in
+    refused_moves (λ s. command_outcome s c.args.command) c.in-Some.refusal c.args.self.now old old c.refuse.result refl (refused g (goal.at.returns-in-Some-clause-remembers g c).In-Some)
 
 pub returns-in-Ok-clause-reads : goal.returns-in-Ok-clause-reads
-returns-in-Ok-clause-reads g c = λ fine.
-    let here = ap (λ (k : Known). k.catalog) c.self.view_is in
-    reads_as _ _ _ _ _ _ (sym (c.in-Ok.ensures.bound ∙ ap (λ (k : Catalog). bound_of k c.args.command) here)) c.execute.ensures.reads
+returns-in-Ok-clause-reads g c = λ fine. reads_as _ _ _ _ _ _ (sym (bound g (goal.at.returns-in-Ok-clause-reads g c).In-Ok)) c.execute.ensures.reads
 
 pub returns-in-Some-clause-reads : goal.returns-in-Some-clause-reads
-returns-in-Some-clause-reads g c = λ fine.
-    let here = ap (λ (k : Known). k.catalog) c.self.view_is in
-    absurd (not_bound _ c.in-Err.error c.in-Some.refusal c.in-Some.ensures c.in-Err.ensures.refused (ap (λ (k : Catalog). refusal_of k c.args.command) here ∙ fine))
+returns-in-Some-clause-reads g c = λ fine. absurd (unbound g (goal.at.returns-in-Some-clause-reads g c).In-Some fine)
 
 pub returns-in-Ok-clause-writes : goal.returns-in-Ok-clause-writes
-returns-in-Ok-clause-writes g c = λ fine.
-    let here = ap (λ (k : Known). k.catalog) c.self.view_is in
-    writes_as _ _ _ _ _ _ (sym (c.in-Ok.ensures.bound ∙ ap (λ (k : Catalog). bound_of k c.args.command) here)) c.execute.ensures.writes
+returns-in-Ok-clause-writes g c = λ fine. writes_as _ _ _ _ _ _ (sym (bound g (goal.at.returns-in-Ok-clause-writes g c).In-Ok)) c.execute.ensures.writes
 
 pub returns-in-Some-clause-writes : goal.returns-in-Some-clause-writes
-returns-in-Some-clause-writes g c = λ fine.
-    let here = ap (λ (k : Known). k.catalog) c.self.view_is in
-    absurd (not_bound _ c.in-Err.error c.in-Some.refusal c.in-Some.ensures c.in-Err.ensures.refused (ap (λ (k : Catalog). refusal_of k c.args.command) here ∙ fine))
+returns-in-Some-clause-writes g c = λ fine. absurd (unbound g (goal.at.returns-in-Some-clause-writes g c).In-Some fine)
 
 pub returns-in-Ok-clause-unwritten : goal.returns-in-Ok-clause-unwritten
 returns-in-Ok-clause-unwritten g c = told_unwritten c.in-Ok.bound c.args.self.now (g.K.Keeper.seen c.args.keeper.now) (g.K.Keeper.seen c.execute.new.keeper) c.execute.result c.requires.agrees c.execute.ensures.writes
@@ -82,7 +72,4 @@ pub returns-in-Some-clause-unwritten : goal.returns-in-Some-clause-unwritten
 returns-in-Some-clause-unwritten g c = nothing_unwritten (g.K.Keeper.seen c.args.keeper.now) (g.K.Keeper.seen c.args.keeper.now) c.refuse.result refl
 
 pub returns-in-Ok-clause-spared : goal.returns-in-Ok-clause-spared
-returns-in-Ok-clause-spared g c = λ spared.
-    let here = ap (λ (k : Known). k.catalog) c.self.view_is in
-    let fine = ap (λ (k : Catalog). refusal_of k c.args.command) (sym here) ∙ c.in-Ok.ensures.accepted in
-    absurd (false≢true (sym spared ∙ ap is_none fine))
+returns-in-Ok-clause-spared g c = λ spared. absurd (false≢true (sym spared ∙ ap is_none (accepted g (goal.at.returns-in-Ok-clause-spared g c).In-Ok)))

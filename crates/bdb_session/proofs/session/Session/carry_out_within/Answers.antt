@@ -1,49 +1,38 @@
-use Rattle.std.proofs.Common.{◌∙◌, ap, sym, subst}
-use Rattle.std.specs.Option.{option_and_then}
-use Rattle.bdb_base.specs.Bases.{IsCatalog}
-use Rattle.bdb_base.specs.declared.kinds.Catalog.{Catalog}
-use Rattle.bdb_bind.specs.Binding.{bound_of}
-use Rattle.bdb_bind.specs.Refusal.{refusal_of}
-use Rattle.bdb_bind.specs.Fits.{fits_catalog}
-use Rattle.bdb_bind.proofs.Fitting.{what_is_bound_fits}
-use Rattle.bdb_session.specs.Known.{Known}
-use Rattle.bdb_session.specs.Machine.{refusal_from, bound_outcome, command_outcome}
-use Rattle.bdb_session.proofs.OutcomeLemmas.{bound_command, unless_some, refused_to_bind}
-use Rattle.bdb_session.specs.Outcome.{Outcome, state_after}
+use Rattle.std.proofs.Common.{◌≡◌, ap}
+use Rattle.bdb_session.specs.Known.{Known, Agrees}
+use Rattle.bdb_session.specs.Machine.{bound_outcome, command_outcome}
+use Rattle.bdb_session.specs.Outcome.{Outcome, Refused, State, state_after}
 use Rattle.bdb_session.proofs.BatchLists.{alters_where, nothing_alters}
+use Rattle.bdb_session.proofs.BindLemmas.{binds_fitting, binds_outcome, refuses_outcome}
 use Rattle.bdb_session.proofs.WithinLemmas.{memory_tells, refused_tells, tells_where}
 use Rattle.bdb_update.proofs.CallLemmas.{gone_itself}
+use Rattle.bdb_session.proofs.session.Session.carry_out_within.Given.{Over}
 use Rattle.bdb_session.proofs.session.Session.carry_out_within.Goals as goal
+use Rattle.bdb_session.proofs.session.Session.carry_out_within.Goals.{In-Ok, In-Some}
+
+-- what comes of the command is what comes of what is bound
+bound : (g : Over) (c : In-Ok g) (s : State) → Agrees (g.K.Keeper.seen c.args.keeper.now).kept c.args.self.now s → command_outcome s c.args.command ≡ bound_outcome s c.in-Ok.bound
+bound g c = binds_outcome c.args.self.now _ (ap (λ (k : Known). k.catalog) c.self.view_is) c.args.command _ c.in-Ok.bound c.in-Ok.ensures.accepted c.in-Ok.ensures.bound
+
+-- what is refused as it is bound is refused as a command
+refused : (g : Over) (c : In-Some g) (s : State) → Agrees (g.K.Keeper.seen c.args.keeper.now).kept c.args.self.now s → command_outcome s c.args.command ≡ Refused c.in-Some.refusal
+refused g c =
+    refuses_outcome c.args.self.now _ (ap (λ (k : Known). k.catalog) c.self.view_is) c.args.command _ c.in-Err.error c.in-Some.refusal c.in-Some.ensures c.in-Err.ensures.refused
 
 pub execute_within-requires-clause-fits : goal.execute_within-requires-clause-fits
 execute_within-requires-clause-fits g c =
-    let catalog = c.args.self.now.catalog in
-    let command = c.args.command in
-    let a = c.requires.agrees.agrees in
-    let here = ap (λ (k : Known). k.catalog) c.self.view_is in
-    let valid = subst IsCatalog (sym a.catalog) a.base.valid.catalog in
-    let fine = ap (λ (k : Catalog). refusal_of k command) (sym here) ∙ c.in-Ok.ensures.accepted in
-    let bound = c.in-Ok.ensures.bound ∙ ap (λ (k : Catalog). bound_of k command) here in
-    ap (fits_catalog catalog) bound ∙ what_is_bound_fits catalog command valid c.requires.allowed fine
+    binds_fitting c.args.self.now _ (ap (λ (k : Known). k.catalog) c.self.view_is) c.args.command _ c.in-Ok.bound c.requires.agrees c.requires.allowed
+    c.in-Ok.ensures.accepted c.in-Ok.ensures.bound
 
 pub returns-in-Ok-clause-told : goal.returns-in-Ok-clause-told
 returns-in-Ok-clause-told g c =
-    let command = c.args.command in
-    let here = ap (λ (k : Known). k.catalog) c.self.view_is in
-    tells_where (λ s. command_outcome s command) (λ s. bound_outcome s c.in-Ok.bound) c.args.self.now c.execute_within.new.self (g.K.Keeper.seen c.args.keeper.now)
-    (g.K.Keeper.seen c.execute_within.new.keeper) c.execute_within.result
-    (λ s a. bound_command s command c.in-Ok.bound (ap (λ (k : Catalog). refusal_of k command) (sym (here ∙ a.catalog)) ∙ c.in-Ok.ensures.accepted)
-    (c.in-Ok.ensures.bound ∙ ap (λ (k : Catalog). bound_of k command) (here ∙ a.catalog))) c.execute_within.ensures.told
+    tells_where (λ s. command_outcome s c.args.command) (λ s. bound_outcome s c.in-Ok.bound) c.args.self.now c.execute_within.new.self (g.K.Keeper.seen c.args.keeper.now)
+    (g.K.Keeper.seen c.execute_within.new.keeper) c.execute_within.result (bound g (goal.at.returns-in-Ok-clause-told g c).In-Ok) c.execute_within.ensures.told
 
 pub returns-in-Some-clause-told : goal.returns-in-Some-clause-told
 returns-in-Some-clause-told g c =
-    let command = c.args.command in
-    let here = ap (λ (k : Known). k.catalog) c.self.view_is in
-    refused_tells (λ s. command_outcome s command) c.in-Some.refusal c.args.self.now (g.K.Keeper.seen c.args.keeper.now) (g.K.Keeper.seen c.refuse_within.new.keeper) c.refuse_within.result
-    c.requires.agrees
-    (λ s a. unless_some (option_and_then refusal_from (refusal_of s.base.catalog command)) c.in-Some.refusal (bound_outcome s (bound_of s.base.catalog command))
-    (refused_to_bind (refusal_of s.base.catalog command) c.in-Err.error c.in-Some.refusal c.in-Some.ensures
-    (λ other. ap (λ (k : Catalog). refusal_of k command) (sym (here ∙ a.catalog)) ∙ c.in-Err.ensures.refused other))) c.refuse_within.ensures
+    refused_tells (λ s. command_outcome s c.args.command) c.in-Some.refusal c.args.self.now (g.K.Keeper.seen c.args.keeper.now) (g.K.Keeper.seen c.refuse_within.new.keeper)
+    c.refuse_within.result c.requires.agrees (refused g (goal.at.returns-in-Some-clause-told g c).In-Some) c.refuse_within.ensures
 
 pub returns-in-None-clause-told : goal.returns-in-None-clause-told
 returns-in-None-clause-told g c =
@@ -52,18 +41,10 @@ returns-in-None-clause-told g c =
 
 pub returns-in-Ok-clause-altered : goal.returns-in-Ok-clause-altered
 returns-in-Ok-clause-altered g c =
-    let command = c.args.command in
-    let here = ap (λ (k : Known). k.catalog) c.self.view_is in
-    alters_where (λ s. command_outcome s command) (λ s. bound_outcome s c.in-Ok.bound) c.args.self.now c.execute_within.new.self (g.K.Keeper.seen c.args.keeper.now) c.execute_within.result
-    (λ s a. bound_command s command c.in-Ok.bound (ap (λ (k : Catalog). refusal_of k command) (sym (here ∙ a.catalog)) ∙ c.in-Ok.ensures.accepted)
-    (c.in-Ok.ensures.bound ∙ ap (λ (k : Catalog). bound_of k command) (here ∙ a.catalog))) c.execute_within.ensures.altered
+    alters_where (λ s. command_outcome s c.args.command) (λ s. bound_outcome s c.in-Ok.bound) c.args.self.now c.execute_within.new.self (g.K.Keeper.seen c.args.keeper.now)
+    c.execute_within.result (bound g (goal.at.returns-in-Ok-clause-altered g c).In-Ok) c.execute_within.ensures.altered
 
 pub returns-in-Some-clause-altered : goal.returns-in-Some-clause-altered
 returns-in-Some-clause-altered g c =
-    let command = c.args.command in
-    let here = ap (λ (k : Known). k.catalog) c.self.view_is in
-    nothing_alters (λ s. command_outcome s command) c.args.self.now (g.K.Keeper.seen c.args.keeper.now) c.refuse_within.result
-    (λ s a. ap (λ (o : Outcome). (state_after s o).base)
-    (unless_some (option_and_then refusal_from (refusal_of s.base.catalog command)) c.in-Some.refusal (bound_outcome s (bound_of s.base.catalog command))
-    (refused_to_bind (refusal_of s.base.catalog command) c.in-Err.error c.in-Some.refusal c.in-Some.ensures
-    (λ other. ap (λ (k : Catalog). refusal_of k command) (sym (here ∙ a.catalog)) ∙ c.in-Err.ensures.refused other))))
+    nothing_alters (λ s. command_outcome s c.args.command) c.args.self.now (g.K.Keeper.seen c.args.keeper.now) c.refuse_within.result
+    (λ s a. ap (λ (o : Outcome). (state_after s o).base) (refused g (goal.at.returns-in-Some-clause-altered g c).In-Some s a))

@@ -4,7 +4,7 @@ use Rattle.bdb_session.specs.declared.reading.Reading.TheVariants as reading
 use Rattle.bdb_session.specs.declared.error.StopError.TheVariants.{Memory}
 use Rattle.bdb_session.specs.Bounds.{CommandReads, CommandWrites, reading_asks}
 use Rattle.bdb_session.specs.Undoing.{next_state, outcome_of}
-use Rattle.bdb_session.specs.declared.event.Event.TheVariants.{Piece}
+use Rattle.bdb_session.specs.declared.event.ScriptEvent.TheVariants.{Piece}
 use Rattle.bdb_session.proofs.BoundLemmas.{nothing_unwritten}
 use Rattle.bdb_session.proofs.FollowLemmas.{blank_piece, refused_piece, said_piece, stop_follows}
 use Rattle.bdb_session.proofs.session.Session.respond.Goals as goal

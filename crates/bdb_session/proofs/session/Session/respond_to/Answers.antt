@@ -2,7 +2,7 @@ use Rattle.std.proofs.Common.{◌∙◌, List, ap, refl, sym, ℕ}
 use Rattle.bdb_render.specs.declared.refusal.Refusal.TheVariants as refusal
 use Rattle.bdb_undo.proofs.TimelineLemmas.{staying_arrives}
 use Rattle.bdb_session.specs.Undoing.{next_state, outcome_of}
-use Rattle.bdb_session.specs.declared.event.Event.TheVariants.{Piece}
+use Rattle.bdb_session.specs.declared.event.ScriptEvent.TheVariants.{Piece}
 use Rattle.bdb_session.proofs.BoundLemmas.{nothing_unwritten}
 use Rattle.bdb_session.proofs.FollowLemmas.{event_as, refused_event}
 use Rattle.bdb_session.proofs.session.Session.respond_to.Goals as goal

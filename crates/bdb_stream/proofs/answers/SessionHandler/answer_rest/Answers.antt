@@ -1,7 +1,7 @@
 use Rattle.std.proofs.Common.{Err, Ok, refl}
 use Rattle.std.proofs.KnownBytes.{Appends-nil}
 use Rattle.bdb_lex.specs.declared.token.Rest.TheVariants.{Nothing, Unfinished}
-use Rattle.bdb_session.specs.declared.event.Event.TheVariants as event
+use Rattle.bdb_session.specs.declared.event.ScriptEvent.TheVariants as event
 use Rattle.bdb_stream.specs.Carried.{by_session, session_in_order}
 use Rattle.bdb_stream.proofs.HandledLemmas.{nothing_ends, one_ends}
 use Rattle.bdb_stream.proofs.answers.SessionHandler.answer_rest.Goals as goal

@@ -1,5 +1,8 @@
 use Rattle.std.proofs.Common.{◌≡◌, false}
 use Rattle.bdb_top_tests.proofs.tests.formats.preset_all.Given as goal
 
-abbrev pub invariant-loop-told : goal.invariant-loop-told
-invariant-loop-told l = l.keeper.seen.running ≡ false
+abbrev pub invariant-loop-change : goal.invariant-loop-change
+invariant-loop-change l =
+    (l.keeper.seen.running ≡ false) ×
+    goal.iterator-loop-change.can_next l.change-iterator ×
+    goal.iterator-loop-change.is_finite l.change-iterator

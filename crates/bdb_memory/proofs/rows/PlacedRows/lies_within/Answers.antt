@@ -3,7 +3,7 @@ use Rattle.bdb_keep.specs.Tables.{LieWithin}
 use Rattle.bdb_memory.specs.Entries.{rows_of, AreAmong}
 use Rattle.bdb_memory.specs.Blocks.{joined}
 use Rattle.bdb_memory.proofs.WithinLemmas.{among-block, among-block-more, lie-from-among, among-from-lie}
-use Rattle.bdb_memory.proofs.rows.Rows.lies_within.Goals as goal
+use Rattle.bdb_memory.proofs.rows.PlacedRows.lies_within.Goals as goal
 
 pub loop-shelf-init : goal.loop-shelf-init
 loop-shelf-init c = tt

@@ -1,7 +1,7 @@
 use Rattle.std.proofs.Common.{Some, None, refl, ap}
 use Rattle.bdb_memory.specs.Entries.{row_of}
 use Rattle.bdb_memory.proofs.TallySteps.{noted}
-use Rattle.bdb_memory.proofs.rows.Rows.empty_behind.Goals as goal
+use Rattle.bdb_memory.proofs.rows.PlacedRows.empty_behind.Goals as goal
 
 pub invariant_of-self : goal.invariant_of-self
 invariant_of-self c =

@@ -2,7 +2,7 @@ use Rattle.std.proofs.Common.{ap, ◌∙◌}
 use Rattle.bdb_memory.specs.Blocks.{joined}
 use Rattle.bdb_memory.specs.Tallies.{count_among}
 use Rattle.bdb_memory.proofs.TallySteps.{tally-counted, walk-counted}
-use Rattle.bdb_memory.proofs.rows.Rows.count_marked.Goals as goal
+use Rattle.bdb_memory.proofs.rows.PlacedRows.count_marked.Goals as goal
 
 pub returns-in-Some : goal.returns-in-Some
 returns-in-Some c =

@@ -2,7 +2,7 @@ use Rattle.std.proofs.Common.{sym, ap, ◌∙◌}
 use Rattle.bdb_memory.specs.Entries.{row_of, place_at}
 use Rattle.bdb_memory.specs.Blocks.{joined}
 use Rattle.bdb_memory.proofs.StoreLemmas.{get_rows_of}
-use Rattle.bdb_memory.proofs.rows.Rows.read.Goals as goal
+use Rattle.bdb_memory.proofs.rows.PlacedRows.read.Goals as goal
 
 pub returns-clause-found : goal.returns-clause-found
 returns-clause-found c =

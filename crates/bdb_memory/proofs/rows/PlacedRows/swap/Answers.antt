@@ -1,7 +1,7 @@
 use Rattle.std.proofs.Common.{Some, ap}
 use Rattle.bdb_memory.specs.Entries.{row_of}
 use Rattle.bdb_memory.proofs.TallySteps.{noted}
-use Rattle.bdb_memory.proofs.rows.Rows.swap.Goals as goal
+use Rattle.bdb_memory.proofs.rows.PlacedRows.swap.Goals as goal
 
 pub invariant_of-self : goal.invariant_of-self
 invariant_of-self c =

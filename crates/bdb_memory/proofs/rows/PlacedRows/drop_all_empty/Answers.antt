@@ -4,7 +4,7 @@ use Rattle.bdb_memory.specs.Blocks.{joined}
 use Rattle.bdb_memory.proofs.FirstLemmas.{rows_of-kept}
 use Rattle.bdb_memory.proofs.BlocksLemmas.{sorted-without, joined-without}
 use Rattle.bdb_memory.proofs.TallySteps.{kept-tallied}
-use Rattle.bdb_memory.proofs.rows.Rows.drop_all_empty.Goals as goal
+use Rattle.bdb_memory.proofs.rows.PlacedRows.drop_all_empty.Goals as goal
 
 pub invariant_of-self : goal.invariant_of-self
 invariant_of-self c =

@@ -4,7 +4,7 @@ use Rattle.bdb_memory.specs.Entries.{rows_of, IsSetAt}
 use Rattle.bdb_memory.specs.Blocks.{joined}
 use Rattle.bdb_memory.proofs.StoreLemmas.{get_rows_of, rows_of-updates}
 use Rattle.bdb_memory.proofs.TallySteps.{noted}
-use Rattle.bdb_memory.proofs.rows.Rows.remove.Goals as goal
+use Rattle.bdb_memory.proofs.rows.PlacedRows.remove.Goals as goal
 
 pub invariant_of-self : goal.invariant_of-self
 invariant_of-self c =
