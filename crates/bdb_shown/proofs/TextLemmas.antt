@@ -9,8 +9,8 @@ use Rattle.bdb_shown.specs.Rows.{stands_alone}
 
 -- where bytes begin with a 0, the text that ends there is empty
 pub text_ends : (b : ℕ) (bytes others left more : List ℕ) → bytes ≡ b ∷ others → b ≡ 0 → SplitsAtZero bytes left more → (left ≡ []) × (others ≡ more)
-text_ends b bytes others [] more is zero h = let e : bytes ≡ 0 ∷ more = h.split in (refl, cc)
-text_ends b bytes others (c ∷ left) more is zero h =
+text_ends b bytes others [] more is nul h = let e : bytes ≡ 0 ∷ more = h.split in (refl, cc)
+text_ends b bytes others (c ∷ left) more is nul h =
     let e : bytes ≡ c ∷ (left ++ 0 ∷ more) = h.split in
     let z : c ≡ 0 = cc in
     absurd (false≢true (subst (λ n. HasNoEnd (n ∷ left)) z h.none))
@@ -65,12 +65,12 @@ pub record IsLeft (rest out wanted more : List ℕ) : Type 0 where
 
 -- where bytes begin with a 0, what was written is what is wanted
 pub left_end : (b : ℕ) (rest others out wanted more : List ℕ) → rest ≡ b ∷ others → b ≡ 0 → IsLeft rest out wanted more → out ≡ wanted
-left_end b rest others out wanted more is zero h =
+left_end b rest others out wanted more is nul h =
     sym (append-nil out) ∙ ap (λ (l : List ℕ). out ++ flat_map quoted_byte l) (sym (text_ends b rest others h.left more is zero h.ends).0) ∙ h.written
 
 -- and the bytes behind it are left
 pub left_behind : (b : ℕ) (rest others out wanted more : List ℕ) → rest ≡ b ∷ others → b ≡ 0 → IsLeft rest out wanted more → others ≡ more
-left_behind b rest others out wanted more is zero h = (text_ends b rest others h.left more is zero h.ends).1
+left_behind b rest others out wanted more is nul h = (text_ends b rest others h.left more is nul h.ends).1
 
 pub left_none : (out wanted more : List ℕ) → IsLeft [] out wanted more → ⊥
 left_none out wanted more h = no_text h.left more h.ends

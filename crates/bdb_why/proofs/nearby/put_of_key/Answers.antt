@@ -11,14 +11,14 @@ use Rattle.bdb_catalog.specs.Taking.{AreTuplesRead}
 use Rattle.bdb_why.proofs.HereLemmas.{both_ascend, puts_near, reads_here}
 use Rattle.bdb_why.proofs.nearby.put_of_key.Given.{Over}
 use Rattle.bdb_why.proofs.nearby.put_of_key.Goals as goal
-use Rattle.bdb_why.proofs.nearby.put_of_key.Goals.{In-Ok-put_both}
+use Rattle.bdb_why.proofs.nearby.put_of_key.Goals.{After-drop-prefix-in-Ok-put_both}
 
 pub put_group-requires : goal.put_group-requires
 put_group-requires g c =
     key_short c.args.n c.args.t.now c.key_of-key.result.now c.ranges.n.fits c.key_of-key.ensures
 
 -- where the rows of the tuple's key begin
-begin : (g : Over) (c : In-Ok-put_both g)
+begin : (g : Over) (c : After-drop-prefix-in-Ok-put_both g)
     → c.as_slice-prefix.result.now ≡ group_bytes c.args.wid c.args.t.now.rel (key_of (λ _. c.args.n) c.args.t.now)
 begin g c =
     let u = c.args.t.now in
@@ -27,7 +27,7 @@ begin g c =
     ∙ ap (group_bytes c.args.wid u.rel) c.key_of-key.ensures
 
 -- the tuples that were read with plus, those that were read with minus, and that the key is written
-read : (g : Over) (c : In-Ok-put_both g)
+read : (g : Over) (c : After-drop-prefix-in-Ok-put_both g)
     → AreTuplesRead (g.K.Keeper.seen c.args.keeper.now) (g.K.Keeper.seen c.tuples_under.new.keeper)
     (group_bytes c.args.wid c.args.t.now.rel (key_of (λ _. c.args.n) c.args.t.now)) Plus c.in-Ok.said.items
     × AreTuplesRead (g.K.Keeper.seen c.tuples_under.new.keeper) (g.K.Keeper.seen c.tuples_under-2.new.keeper)
