@@ -66,7 +66,7 @@ pub record IsLeft (rest out wanted more : List ℕ) : Type 0 where
 -- where bytes begin with a 0, what was written is what is wanted
 pub left_end : (b : ℕ) (rest others out wanted more : List ℕ) → rest ≡ b ∷ others → b ≡ 0 → IsLeft rest out wanted more → out ≡ wanted
 left_end b rest others out wanted more is nul h =
-    sym (append-nil out) ∙ ap (λ (l : List ℕ). out ++ flat_map quoted_byte l) (sym (text_ends b rest others h.left more is zero h.ends).0) ∙ h.written
+    sym (append-nil out) ∙ ap (λ (l : List ℕ). out ++ flat_map quoted_byte l) (sym (text_ends b rest others h.left more is nul h.ends).0) ∙ h.written
 
 -- and the bytes behind it are left
 pub left_behind : (b : ℕ) (rest others out wanted more : List ℕ) → rest ≡ b ∷ others → b ≡ 0 → IsLeft rest out wanted more → others ≡ more
