@@ -9,7 +9,7 @@ use std::alloc::{AllocError, Global};
 use std::io;
 use std::io::{Read, Write};
 
-/// How a script is read.
+/// In which portions a script is read.
 #[derive(Clone, Copy, Drop)]
 pub(crate) enum Portions {
     /// So many bytes at a time.
@@ -54,7 +54,7 @@ pub(crate) fn is_told(
     rt: &HostRuntime,
     setup: &str,
     lines: &str,
-    reading: Portions,
+    portions: Portions,
 ) -> io::Result<bool> {
     let mut told = Told::new(rt.alloc());
     told.take_words(rt.alloc(), "run")?;
@@ -63,7 +63,7 @@ pub(crate) fn is_told(
     for line in lines.split('\n') {
         match line.strip_prefix("= ") {
             Some(end) => {
-                if !told.is_met(rt, end, reading, &mut keeper)? {
+                if !told.is_met(rt, end, portions, &mut keeper)? {
                     return Ok(false);
                 }
                 told.clear();
@@ -137,7 +137,7 @@ impl Told {
         &self,
         rt: &HostRuntime,
         end: &str,
-        reading: Portions,
+        portions: Portions,
         keeper: &mut QuietKeeper,
     ) -> io::Result<bool>
         requires idle { keeper.old.running ≡ false }
@@ -147,7 +147,7 @@ impl Told {
         if !self.has_script {
             return self.is_met_over(rt, end, &mut NoSource::new(), keeper);
         }
-        match reading {
+        match portions {
             Portions::Steps(step) => {
                 let text = Vec::from_slice(rt.alloc(), script)?;
                 let mut source = MemSource::new(text, step.max(1), List::new(rt.alloc()));

@@ -1,5 +1,5 @@
 -- Well formed tokens are well spelled, and a command that has a printed form is allowed.
-use Rattle.std.proofs.Common.{◌≡◌, ℕ, ◌<◌, Bool, true, false, not, ◌&&◌, nat_lt, nat_le, List, [], ◌∷◌, length, refl, arith}
+use Rattle.std.proofs.Common.{◌≡◌, ℕ, Bool, true, false, not, ◌&&◌, nat_lt, nat_le, List, [], ◌∷◌, length, refl, arith}
 use Rattle.std.specs.List.{list_any, list_all, AllByRecursion}
 use Rattle.std.specs.Char.{is_ascii_digit}
 use Rattle.std.specs.Str.{is_utf8}
@@ -110,21 +110,21 @@ sets_are_clean sets h = none_pass IsPrintableSet (λ s. list_any is_unclean (val
 
 -- names
 
-begin_in_word : (b : ℕ) → is_letter b ≡ true → is_word_byte b ≡ true
-begin_in_word b h = or_left (is_letter b) (is_ascii_digit b) h
+letter_in_word : (b : ℕ) → is_letter b ≡ true → is_word_byte b ≡ true
+letter_in_word b h = or_left (is_letter b) (is_ascii_digit b) h
 
-in_word_high : (b : ℕ) → is_word_byte b ≡ true → nat_le 32 b ≡ true
-in_word_high b h = grind (arith, nat_tests)
+word_byte_high : (b : ℕ) → is_word_byte b ≡ true → nat_le 32 b ≡ true
+word_byte_high b h = grind (arith, nat_tests)
 
 word_is_plain : (w : List ℕ) → is_short_word w ≡ true → is_plain w ≡ true
 word_is_plain [] h = absurd (false≢true h)
 word_is_plain (b ∷ w) h =
     let k = and_parts (is_letter b) (list_all is_word_byte w && nat_le (length (b ∷ w)) 255) h in
     let m = and_parts (list_all is_word_byte w) (nat_le (length (b ∷ w)) 255) k.1 in
-    let all : list_all is_word_byte (b ∷ w) ≡ true = and_from (is_word_byte b) (list_all is_word_byte w) (begin_in_word b k.0) m.0 in
+    let all : list_all is_word_byte (b ∷ w) ≡ true = and_from (is_word_byte b) (list_all is_word_byte w) (letter_in_word b k.0) m.0 in
     and_from (nat_le (length (b ∷ w)) 255) (is_clean (b ∷ w)) m.1
     (and_from (is_utf8 (b ∷ w)) (list_all (λ c. nat_le 32 c) (b ∷ w)) (utf8_from is_word_byte word_byte_low (b ∷ w) all)
-    (list_all_weaker is_word_byte (λ c. nat_le 32 c) in_word_high (b ∷ w) all))
+    (list_all_weaker is_word_byte (λ c. nat_le 32 c) word_byte_high (b ∷ w) all))
 
 columns_are_plain : (cols : List ColDef) → AllByRecursion (λ (c : ColDef). IsNameWord c.name) cols → list_all (λ c. is_plain c.name) cols ≡ true
 columns_are_plain cols h = all_pass (λ (c : ColDef). IsNameWord c.name) (λ c. is_plain c.name) (λ c n. word_is_plain c.name n.0) cols h

@@ -1,11 +1,12 @@
 -- How often commands read and write, by what they are bound to.
-use Rattle.std.proofs.Common.{◌≡◌, ◌≢◌, ◌∙◌, true, Option, None, Some, Result, Ok, Err, IfOk, List, sym, subst}
+use Rattle.std.proofs.Common.{◌≡◌, ◌≢◌, ◌∙◌, true, Option, None, Some, Result, Ok, Err, IfOk, List, refl, sym, subst}
 use Rattle.std.proofs.lemmas.Bool.{false≢true}
 use Rattle.bdb_bind.specs.declared.bound.BindError.{BindError}
 use Rattle.bdb_bind.specs.declared.bound.BindError.TheVariants.{Memory}
 use Rattle.bdb_bind.specs.declared.bound.Bound.{Bound}
 use Rattle.bdb_bind.specs.declared.bound.Bound.TheVariants.{CreateUser, CreateRelation, DropUser, Insert, Delete, Update, Select, Explain, ShowWorld, Why, ShowTables, Undo, Redo}
 use Rattle.bdb_base.specs.Bases.{Contents}
+use Rattle.bdb_base.specs.declared.kinds.Catalog.{Catalog}
 use Rattle.bdb_base.specs.declared.kinds.SetCol.{SetCol}
 use Rattle.bdb_base.specs.declared.kinds.Stmt.{Stmt}
 use Rattle.bdb_keep.specs.Seen.{Seen}
@@ -16,8 +17,10 @@ use Rattle.bdb_session.specs.declared.reply.Reply.{Reply}
 use Rattle.bdb_session.specs.declared.error.StopError.{StopError}
 use Rattle.bdb_session.specs.Known.{Known, AgreesOnSome}
 use Rattle.bdb_session.specs.Machine.{refusal_from}
-use Rattle.bdb_session.specs.Within.{nothing_new, sized}
+use Rattle.bdb_session.specs.Outcome.{Outcome}
+use Rattle.bdb_session.specs.Within.{IsSaid, nothing_new, sized}
 use Rattle.bdb_session.proofs.OutcomeLemmas.{refused_to_bind}
+use Rattle.bdb_session.proofs.TellLemmas.{said_nothing}
 
 -- where it is known what is bound
 pub reads_as : (k : Known) (old new : Seen) (result : Result Reply StopError) (b known : Bound) → b ≡ known → ReadsAsTold known k old new result → ReadsAsTold b k old new result
@@ -41,6 +44,10 @@ not_bound (Some y) e x is h fine = cc
 pub nothing_unwritten : (old new : Seen) (result : Result Reply StopError) → new.writes ≡ old.writes → RefusedUnwritten old new result
 nothing_unwritten old new (Ok r) e = λ refused. e
 nothing_unwritten old new (Err stop) e = tt
+
+-- and so does what is said alone
+pub said_unwritten : (c : Catalog) (o : Outcome) (old new : Seen) (result : Result Reply StopError) → IsSaid c o old new result → RefusedUnwritten old new result
+said_unwritten c o old new result said = nothing_unwritten old new result (said_nothing c o old old new result refl refl said).writes
 
 never_refused : (old new : Seen) (result : Result Reply StopError) → IfOk result (λ r. r.accepted ≡ true) → RefusedUnwritten old new result
 never_refused old new (Ok r) e = λ refused. absurd (false≢true (sym refused ∙ e))

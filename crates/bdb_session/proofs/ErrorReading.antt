@@ -14,6 +14,7 @@ use Rattle.bdb_base.specs.declared.kinds.UserSlot.{UserSlot}
 use Rattle.bdb_base.specs.declared.kinds.Value.{Value}
 use Rattle.bdb_base.specs.declared.kinds.Value.TheVariants.{Int, Text}
 use Rattle.bdb_base.specs.Bases.{users_name}
+use Rattle.bdb_base.specs.Letters.{is_letter, is_word_byte}
 use Rattle.bdb_base.specs.Limits.{deepest_query, longest_word, most_columns, most_items, most_select_columns}
 use Rattle.bdb_base.specs.Same.{same_text}
 use Rattle.bdb_base.specs.Safety.{one_kind}
@@ -92,18 +93,18 @@ reading_printable bytes = by_tokens bytes (tokens_of bytes) refl
 
 -- ---- the aliases and literals of a query that is read have no line feed
 
-in_word_other : (c : ℕ) → is_word_byte c ≡ true → not (nat_eq c 10) ≡ true
-in_word_other c h = grind (arith, nat_tests)
+word_byte_other : (c : ℕ) → is_word_byte c ≡ true → not (nat_eq c 10) ≡ true
+word_byte_other c h = grind (arith, nat_tests)
 
-begin_other : (c : ℕ) → is_letter c ≡ true → not (nat_eq c 10) ≡ true
-begin_other c h = grind (arith, nat_tests)
+letter_other : (c : ℕ) → is_letter c ≡ true → not (nat_eq c 10) ≡ true
+letter_other c h = grind (arith, nat_tests)
 
 word_flat : (w : List ℕ) → is_short_word w ≡ true → IsFlat w
 word_flat [] h = refl
 word_flat (c ∷ cs) h =
     let k = and_parts (is_letter c) (list_all is_word_byte cs && nat_le (length (c ∷ cs)) longest_word) h in
     let m = and_parts (list_all is_word_byte cs) (nat_le (length (c ∷ cs)) longest_word) k.1 in
-    and_from (not (nat_eq c 10)) (lacks 10 cs) (begin_other c k.0) (list_all_weaker is_word_byte (λ c. not (nat_eq c 10)) in_word_other cs m.0)
+    and_from (not (nat_eq c 10)) (lacks 10 cs) (letter_other c k.0) (list_all_weaker is_word_byte (λ c. not (nat_eq c 10)) word_byte_other cs m.0)
 
 literal_flat : (v : Value) → IsPrintableValue v → is_flat_value v ≡ true
 literal_flat (Int n) h = refl

@@ -61,9 +61,12 @@ within_limits b e =
       stmts = at_most most_statements (length b.stmts) t.0;
     }
 
+-- what comes of three sizes comes of the same ones
+pub by_sizes : {X : Type 0} (f : ℕ → ℕ → Counts → X) (users rels m n : ℕ) (counts c : Counts) → users ≡ m → rels ≡ n → counts ≡ c
+    → f users rels counts ≡ f m n c
+by_sizes f users rels m n counts c by_users by_rels by_counts = ap (λ k. f k rels counts) by_users ∙ ap (λ k. f m k counts) by_rels ∙ ap (f m n) by_counts
+
 -- the limit that is found by the counts of a base is the one that it passes
 pub limit_is : (b : Contents) (o : Option What) (users rels : ℕ) (counts : Counts) → o ≡ limit_passed users rels counts
     → users ≡ length b.catalog.users → rels ≡ length b.catalog.rels → counts ≡ counts_of b → o ≡ passed_limit b
-limit_is b o users rels counts e u r c =
-    e ∙ ap (λ k. limit_passed k rels counts) u ∙ ap (λ k. limit_passed (length b.catalog.users) k counts) r
-    ∙ ap (limit_passed (length b.catalog.users) (length b.catalog.rels)) c
+limit_is b o users rels counts e u r c = e ∙ by_sizes limit_passed users rels (length b.catalog.users) (length b.catalog.rels) counts (counts_of b) u r c

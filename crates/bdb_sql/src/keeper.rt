@@ -102,7 +102,7 @@ impl<S: Alter> SqlKeeper<S> {
         conn: Option<Connection<S>>,
         refusal: Option<KeepError>,
     ) -> Self
-        requires settled { store.kept ≡ store.last }
+        requires committed { store.kept ≡ store.last }
         requires fits { LieInTables store.kept }
         requires empty { IsSome refusal → store.kept ≡ map.empty }
         ensures begins { Begins result }

@@ -28,7 +28,7 @@ const UNFIT: Error = Error::SqliteFailure(ErrorCode::DatabaseCorrupt);
 /// long, and one that doesn't come after the row before it. It writes nothing. Where the store below is whole, the
 /// file is tied to what was loaded.
 pub fn load<S: Alter>(alloc: Global, conn: &mut Connection<S>) -> Result<Store, KeepError>
-    ensures settled { IfOk result (λ store. store.kept ≡ store.last) }
+    ensures committed { IfOk result (λ store. store.kept ≡ store.last) }
     ensures fits { IfOk result (λ store. LieInTables store.kept) }
     ensures found { OnOk result (IsBareOrKept (state S.Store conn.old)) }
     ensures rows { HasCleanDisk (state S.Store conn.new)
@@ -59,7 +59,7 @@ fn load_found<S: Alter>(
     requires nothing { found ≡ FileSchema.Nothing → (state S.Store conn.old).now.schema
         ≡ no_schema }
     requires table { found ≡ FileSchema.Table → (state S.Store conn.old).now.schema ≡ kept_schema }
-    ensures settled { IfOk result (λ store. store.kept ≡ store.last) }
+    ensures committed { IfOk result (λ store. store.kept ≡ store.last) }
     ensures fits { IfOk result (λ store. LieInTables store.kept) }
     ensures found { OnOk result (IsBareOrKept (state S.Store conn.old)) }
     ensures rows { HasCleanDisk (state S.Store conn.new)
@@ -81,7 +81,7 @@ fn load_found<S: Alter>(
 /// Reads the rows of the table.
 fn read_rows<S: Alter>(alloc: Global, conn: &mut Connection<S>) -> Result<Store, Error>
     requires { (state S.Store conn.old).now.schema ≡ kept_schema }
-    ensures settled { IfOk result (λ store. store.kept ≡ store.last) }
+    ensures committed { IfOk result (λ store. store.kept ≡ store.last) }
     ensures fits { IfOk result (λ store. LieInTables store.kept) }
     ensures rows { HasCleanDisk (state S.Store conn.new)
         → IfOk result (λ store. AreAllRows (map entry ((state S.Store conn.old).now.trees 0))
@@ -108,7 +108,7 @@ fn add_row(store: &mut Store, row: &Row, place: &mut Vec<u8>) -> Result<(), Erro
     requires { LieInTables store.old.kept }
     ensures added { OnOk result
         (AddsAfter row.now place.old.items place.new.items store.old.kept store.new.kept) }
-    ensures settled { OnOk result (store.new.kept ≡ store.new.last) }
+    ensures committed { OnOk result (store.new.kept ≡ store.new.last) }
     ensures fits { OnOk result (LieInTables store.new.kept) }
 {
     let Some((tab, key, content)) = entry_of(row) else {

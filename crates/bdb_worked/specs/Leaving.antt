@@ -1,11 +1,11 @@
 -- A user leaves, and with her all that was said of her.
 use Rattle.std.specs.Prelude.{ℕ, List, [], ◌∷◌, ◌++◌, codes}
-use Rattle.bdb_worked.specs.Worked.{reported, reported_told}
+use Rattle.bdb_worked.specs.Worked.{reporting, reporting_told}
 
 -- Carol believes that Alice saw an eagle, and Alice saw a crow; Carol leaves, and another Carol comes, who has a number of her own
 abbrev pub script : List (List ℕ)
 script =
-    reported
+    reporting
     ++ codes "drop user 'Carol';"
     ∷ codes "show world BELIEF 'Carol';"
     ∷ codes "drop user 'Carol';"
@@ -19,7 +19,7 @@ script =
 -- the replies
 abbrev pub told : List (List ℕ)
 told =
-    reported_told
+    reporting_told
     ++ codes "ok 1"
     ∷ codes "error user 'Carol'"
     ∷ codes "error user 'Carol'"

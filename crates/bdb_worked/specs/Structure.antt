@@ -1,15 +1,15 @@
 -- The structure that stands for all worlds.
 use Rattle.std.specs.Prelude.{ℕ, List, [], ◌∷◌, ◌++◌, codes}
-use Rattle.bdb_worked.specs.Worked.{reported, reported_told}
+use Rattle.bdb_worked.specs.Worked.{reporting, reporting_told}
 
 -- Carol believes that Alice saw an eagle, and Alice saw a crow; what stands for that
 abbrev pub script : List (List ℕ)
-script = reported ++ codes "show tables;" ∷ []
+script = reporting ++ codes "show tables;" ∷ []
 
 -- the replies, and the structure in the end
 abbrev pub told : List (List ℕ)
 told =
-    reported_told
+    reporting_told
     ++ codes "user 1 'Alice'"
     ∷ codes "user 2 'Bob'"
     ∷ codes "user 3 'Carol'"

@@ -1,4 +1,4 @@
--- What a script is answered, line by line.
+-- What a script is answered, line by line; and what two scripts begin with.
 use Rattle.std.specs.Prelude.{◌≡◌, ℕ, List, [], ◌∷◌, ◌++◌, codes}
 use Rattle.bdb_base.specs.Bases.{empty_contents}
 use Rattle.bdb_session.specs.Runs.{events_of}
@@ -15,8 +15,8 @@ abbrev pub IsAnswered : List (List ℕ) → List (List ℕ) → Type 0
 IsAnswered script told = replies (started empty_contents) (events_of (lines script)) ≡ lines told
 
 -- what two scripts begin with: Carol believes that Alice saw an eagle, and Alice saw a crow
-abbrev pub reported : List (List ℕ)
-reported =
+abbrev pub reporting : List (List ℕ)
+reporting =
     codes "create user 'Alice'; create user 'Bob';"
     ∷ codes "create relation S(k text, v text);"
     ∷ codes "create user 'Carol';"
@@ -24,8 +24,8 @@ reported =
     ∷ codes "insert into BELIEF 'Alice' S values('s2','crow');" ∷ []
 
 -- the replies to that
-abbrev pub reported_told : List (List ℕ)
-reported_told =
+abbrev pub reporting_told : List (List ℕ)
+reporting_told =
     codes "ok"
     ∷ codes "ok"
     ∷ codes "ok"

@@ -89,13 +89,13 @@ fn left_by_source(alloc: Global, source: MemSource) -> Result<Left, Fail> {
 }
 
 /// What a stream leaves of which nothing fails.
-fn left_by_none(alloc: Global, stream: Vec<u8>) -> Result<Left, Fail> {
+fn left_by_stream(alloc: Global, stream: Vec<u8>) -> Result<Left, Fail> {
     left_by_source(alloc, MemSource::new(stream, STEP, List::new(alloc)))
 }
 
 /// The rows that the first pieces leave.
 fn rows_after(alloc: Global, count: usize) -> Result<MemKeeper, Fail> {
-    Ok(left_by_none(alloc, stream_of(alloc, count)?)?.keeper)
+    Ok(left_by_stream(alloc, stream_of(alloc, count)?)?.keeper)
 }
 
 /// Whether the rows are those that the first pieces leave, committed as often.
@@ -241,7 +241,7 @@ fn has_rest(front: &[u8]) -> bool {
 /// Whether a run over a front of the stream tells of the pieces that end in it and of its rest, and leaves the rows of these pieces:
 /// a batch that is open is dropped.
 fn ends_at(alloc: Global, front: &[u8]) -> Result<bool, Fail> {
-    let left = left_by_none(alloc, Vec::from_slice(alloc, front)?)?;
+    let left = left_by_stream(alloc, Vec::from_slice(alloc, front)?)?;
     let count = pieces_in(front, front.len());
     let mut replies = replies_of(alloc, count)?;
     let is_unfinished = has_rest(front);

@@ -153,14 +153,14 @@ fn have_same_table<A: Keeper, B: Keeper>(
 
 /// A row of a table with its key. Both are empty where there is none.
 #[derive(Drop)]
-struct FileRow {
+struct FoundRow {
     found: bool,
     key: Vec<u8>,
     content: Vec<u8>,
 }
 
 /// Whether two rows are the same.
-fn is_same_row(one: &FileRow, other: &FileRow) -> bool {
+fn is_same_row(one: &FoundRow, other: &FoundRow) -> bool {
     one.found == other.found
         && one.key.as_slice() == other.key.as_slice()
         && one.content.as_slice() == other.content.as_slice()
@@ -172,7 +172,7 @@ fn row_from<K: Keeper>(
     tab: u8,
     low: &[u8],
     keeper: &mut K,
-) -> Result<FileRow, Fail> {
+) -> Result<FoundRow, Fail> {
     let mut key = Vec::new(alloc);
     let mut content = Vec::new(alloc);
     let found = if tab < 1 || tab > 15 {
@@ -180,7 +180,7 @@ fn row_from<K: Keeper>(
     } else {
         keeper.next(tab, low, &mut key, &mut content)?
     };
-    Ok(FileRow {
+    Ok(FoundRow {
         found,
         key,
         content,

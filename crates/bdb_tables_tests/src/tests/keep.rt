@@ -184,7 +184,7 @@ fn a_store_lists_its_changes(rt: HostRuntime) -> Result<(), Fail> {
     Ok(())
 }
 
-/// Keys that lie in the map itself and keys that don't, in no order and in their order.
+/// Keys of up to 25 bytes, which may lie in an entry itself, and longer ones: in no order, and in their order.
 const KEYS: &str = "bb aaaaaaaaaaaaaaaaaaaaaaaaaaaaaaaab aaaaaaaaaaaaaaaaaaaaaaaaab \
      aaaaaaaaaaaaaaaaaaaaaaaaaaaaaaab aaaaaaaaaaaaaaaaaaaaaaaaaaaaaaaaaaaaaaaaaaa \
      aaaaaaaaaaaaaaaaa aaaaaaaaaaaaaaaaaaaaaaaaaaaaaaaa aaaaaaaaaaaaaaaaaaaaaaaaa a";
@@ -215,7 +215,7 @@ fn short_and_long_keys_come_in_order(rt: HostRuntime) -> Result<(), Fail> {
     Ok(())
 }
 
-/// Those of the keys above that begin with two of the same letter.
+/// Those of the keys above that begin with `aa`, but for the longest, which is removed.
 const KEYS_WITH_TWO: &str =
     "aaaaaaaaaaaaaaaaa aaaaaaaaaaaaaaaaaaaaaaaaa aaaaaaaaaaaaaaaaaaaaaaaaaaaaaaaa \
      aaaaaaaaaaaaaaaaaaaaaaaaaaaaaaaab aaaaaaaaaaaaaaaaaaaaaaaaaaaaaaab \

@@ -1,5 +1,3 @@
-use Rattle.bdb_session.proofs.StepLemmas.{update_writes}
-use Rattle.bdb_session.proofs.BindLemmas.{binds_so}
 use Rattle.bdb_session.proofs.ReadLemmas.{stored_plans_read_few}
 use Rattle.bdb_session.proofs.laws.stored_plans_read_few.Goals as goal
 

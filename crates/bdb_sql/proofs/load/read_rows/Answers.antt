@@ -56,7 +56,7 @@ rows-preserved g c =
             one_more c.in-Some.row.now c.rows.place.items c.add_row.new.place.items c.rows.store.kept c.add_row.new.store.kept adds inv.5 was.0 was.2,
             unchanged_then old mid now was.3 (rw c.in_ok-row.was at (moved.same clean)),
           ),
-      c.in_ok-add_row.ensures.settled,
+      c.in_ok-add_row.ensures.committed,
       c.in_ok-add_row.ensures.fits,
       up_to_next c.in-Some.row.now c.rows.place.items c.add_row.new.place.items c.rows.store.kept c.add_row.new.store.kept adds inv.5,
     )
