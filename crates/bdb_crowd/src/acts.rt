@@ -62,7 +62,8 @@ pub fn answer_act<O: Sink, K: Keeper>(
 /// Writes a line of a session. Ok tells whether it tells no error.
 pub fn tell<O: Sink>(out: &mut O, number: u8, line: &[u8], fine: bool) -> Result<bool, RunError>
     requires { number < sessions }
-    ensures told { IsTextTold (label number ++ line.now) fine (O.written out.old) (O.written out.new) result }
+    ensures told { IsTextTold (label number ++ line.now) fine (O.written out.old)
+        (O.written out.new) result }
     ensures later { O.faults out.old ≤ O.faults out.new }
     ensures sink { IsErrOf result RunError.Sink → Rose (O.faults out.old) (O.faults out.new) }
     ensures source { OnErr result (IsErrOf result RunError.Source → ⊥) }
