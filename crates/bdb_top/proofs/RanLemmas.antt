@@ -14,12 +14,12 @@ use Rattle.bdb_keep.specs.Seen.{Seen, IsStill, Unchanged}
 use Rattle.bdb_keep.specs.Tables.{Tables}
 use Rattle.bdb_session.specs.Known.{Known}
 use Rattle.bdb_session.specs.Opening.{opening}
-use Rattle.bdb_stream.specs.Handling.{Handling, IsFrontOf, IsInOrder, asked_of}
+use Rattle.bdb_stream.specs.Handling.{Handling, IsInOrder, asked_of}
 use Rattle.bdb_stream.specs.Reads.{Streams, WritesBy, status_of}
 use Rattle.bdb_stream.specs.declared.error.RunError.{RunError}
 use Rattle.bdb_stream.specs.declared.error.RunError.TheVariants.{Source, Sink, Keeper, Memory, Large}
 use Rattle.bdb_top.specs.Checked.{IsUntouched}
-use Rattle.bdb_top.specs.Ran.{EachBase, RanBy, StandsForNone, CommitsFor}
+use Rattle.bdb_top.specs.Ran.{EachBase, RanBy, StandsForNone}
 
 -- ---- what a status tells of the result
 
