@@ -90,7 +90,7 @@ user_passes t k s name a =
     let rels = ap (λ (c : Catalog). length c.rels) a.catalog in
     limit_is (user_added name s).base (user_limit k) (length k.catalog.users + 1) (length k.catalog.rels) k.counts refl users rels a.counts
 
-pub pub user_full : (k : Known) (name : List ℕ) (what : What) → user_limit k ≡ Some what → (t : Tables) (s : State) → Agrees t k s
+pub user_full : (k : Known) (name : List ℕ) (what : What) → user_limit k ≡ Some what → (t : Tables) (s : State) → Agrees t k s
     → bound_outcome s (CreateUser name) ≡ Refused (Full what)
 user_full k name what e t s a = becomes_full s (user_added name s).base ok_reply what (sym (user_passes t k s name a) ∙ e)
 
@@ -153,7 +153,7 @@ relation_passes t k s def a =
     limit_is (relation_added def s).base (relation_limit k) (length k.catalog.users) (length k.catalog.rels + 1) k.counts refl users rels
     (a.counts ∙ counts_stay s.base def a.base.valid.stmts.belong)
 
-pub pub relation_full : (k : Known) (def : RelDef) (what : What) → relation_limit k ≡ Some what → (t : Tables) (s : State) → Agrees t k s
+pub relation_full : (k : Known) (def : RelDef) (what : What) → relation_limit k ≡ Some what → (t : Tables) (s : State) → Agrees t k s
     → bound_outcome s (CreateRelation def) ≡ Refused (Full what)
 relation_full k def what e t s a = becomes_full s (relation_added def s).base ok_reply what (sym (relation_passes t k s def a) ∙ e)
 
