@@ -1,14 +1,12 @@
 -- Lemmas on entries in blocks.
 use Rattle.std.proofs.Common.{◌≡◌, ℕ, zero, suc, ◌<◌, ◌≤◌, ◌+◌, ◌-◌, Bool, true, false, cond, map, length-drop, length-take-le, take-take, drop-drop, take-add, List, [], ◌∷◌, ◌++◌, length, take, drop, set, get_or, Option, Some, None, Less, Equal, Greater, refl, sym, ap, ◌∙◌, append_assoc, append-nil, length-set, take-append-drop, take-suc, drop-cons, take_all, drop_of_length-le, subst, arith}
 use Rattle.std.specs.Prelude.{is_some, filter, Result, Ok, Err, IfOk, IfErr}
-use Rattle.std.specs.List.{AllWithin}
-use Rattle.std.specs.List.Sorted.{IsPartitionPoint, IsPartitionedBy}
 use Rattle.std.specs.Ordering.{is_le, is_lt, is_eq}
 use Rattle.std.proofs.lemmas.Cmp.{nat_list_cmp_total, eq_by_cmp_equiv}
 use Rattle.std.proofs.lemmas.Result.{IfOk-at_ok, IfErr-at_err}
 use Rattle.bdb_keep.specs.Tables.{bytes_cmp}
 use Rattle.bdb_memory.specs.Entries.{Entries, place_at, AreBelow, AreAbove, NoneBelow, IsAscending}
-use Rattle.bdb_memory.specs.Blocks.{joined, before, after, HasEntry, HaveEntries, AreSorted, IsBoundary, IsThere, entry_at, StandsAt, BelongsHere, starts_within, without_empty, has_any, cut}
+use Rattle.bdb_memory.specs.Blocks.{joined, before, after, HasEntry, HaveEntries, AreSorted, IsBlockFor, IsBoundary, IsThere, entry_at, StandsAt, BelongsHere, starts_within, without_empty, has_any, cut}
 use lib.Seq.{set_split, drop-append-le}
 use Rattle.std.proofs.lemmas.List.Edits.{length-remove}
 use Rattle.bdb_base.proofs.SetLemmas.{is_lt-Less}
@@ -187,37 +185,32 @@ sorted-added bs cs q r i j s g e f = record {
 }
 
 -- ---- what searches find
--- where all before an index pass the test "below", they are
-pub lower-below : (q : List ℕ) (es : Entries) (n : ℕ) → AllWithin (λ e. is_lt (bytes_cmp e.0 q) ≡ true) es 0 n → n ≤ length es → AreBelow q (take n es)
-lower-below q es zero w h = tt
-lower-below q [] (suc n) w h = tt
-lower-below q (e ∷ es) (suc n) w h = (is_lt-Less (bytes_cmp e.0 q) (w 0 e (omega arith) (omega arith)), lower-below q es n (λ k d l m. w (suc k) d (omega arith) (omega arith)) (omega arith))
-
--- where none from an index on passes it, none is below
-pub lower-above : (q : List ℕ) (es : Entries) (n : ℕ) → AllWithin (λ e. is_lt (bytes_cmp e.0 q) ≡ false) es n (length es) → NoneBelow q (drop n es)
-lower-above q [] zero w = tt
-lower-above q [] (suc n) w = tt
-lower-above q (e ∷ es) zero w = (le_from_not_lt e.0 q (w 0 e (omega arith) (omega arith)), lower-above q es zero (λ k d l m. w (suc k) d (omega arith) (omega arith)))
-lower-above q (e ∷ es) (suc n) w = lower-above q es n (λ k d l m. w (suc k) d (omega arith) (omega arith))
-
 above-at : (p : List ℕ) (es : Entries) (k : ℕ) (d : List ℕ × Option (List ℕ)) → AreAbove p es → k < length es → bytes_cmp p (get_or es k d).0 ≡ Less
 above-at p [] k d a h = absurd (omega arith)
 above-at p (e ∷ es) zero d a h = a.0
 above-at p (e ∷ es) (suc k) d a h = above-at p es k d a.1 (omega arith)
 
-pub lower-parted : (q : List ℕ) (es : Entries) → IsAscending es → IsPartitionedBy (λ e. is_lt (bytes_cmp e.0 q)) es
-lower-parted q [] a i k d l h s = absurd (omega arith)
-lower-parted q (e ∷ es) a zero zero d l h s = s
-lower-parted q (e ∷ es) a zero (suc k) d l h s = ap is_lt (nat_list_cmp_total.trans e.0 (get_or es k d).0 q (above-at e.0 es k d a.0 (omega arith)) (is_lt-Less (bytes_cmp (get_or es k d).0 q) s))
-lower-parted q (e ∷ es) a (suc i) zero d l h s = absurd (omega arith)
-lower-parted q (e ∷ es) a (suc i) (suc k) d l h s = lower-parted q es a.1 i k d (omega arith) (omega arith) s
+-- all up to one that is below what is sought are below it
+pub below-up-to : (q : List ℕ) (es : Entries) (n : ℕ) (d : List ℕ × Option (List ℕ)) → IsAscending es → n < length es → is_lt (bytes_cmp (get_or es n d).0 q) ≡ true → AreBelow q (take (suc n) es)
+below-up-to q [] n d a h t = absurd (omega arith)
+below-up-to q (e ∷ es) zero d a h t = (is_lt-Less (bytes_cmp e.0 q) t, tt)
+below-up-to q (e ∷ es) (suc n) d a h t =
+    let last : bytes_cmp (get_or es n d).0 q ≡ Less = is_lt-Less (bytes_cmp (get_or es n d).0 q) t in
+    (nat_list_cmp_total.trans e.0 (get_or es n d).0 q (above-at e.0 es n d a.0 (omega arith)) last, below-up-to q es n d a.1 (omega arith) t)
 
-pub bound-searched : (q : List ℕ) (bs : List Entries) (n i j : ℕ) → AreSorted bs → IsPartitionPoint (λ b. starts_within q b ≡ true) (λ b. starts_within q b ≡ false) bs n → i ≡ n - 1 → i < length bs
+-- and none from one on that isn't, is
+pub none-below-from : (q : List ℕ) (es : Entries) (n : ℕ) (d : List ℕ × Option (List ℕ)) → IsAscending es → (n < length es → is_lt (bytes_cmp (get_or es n d).0 q) ≡ false) → NoneBelow q (drop n es)
+none-below-from q [] zero d a t = tt
+none-below-from q [] (suc n) d a t = tt
+none-below-from q (e ∷ es) zero d a t = none_below_from_first q e es a (le_from_not_lt e.0 q (t (omega arith)))
+none-below-from q (e ∷ es) (suc n) d a t = none-below-from q es n d a.1 (λ l. t (omega arith))
+
+pub bound-found : (q : List ℕ) (bs : List Entries) (i j : ℕ) → AreSorted bs → IsBlockFor bs q i
     → j ≤ length (get_or bs i []) → AreBelow q (take j (get_or bs i [])) → NoneBelow q (drop j (get_or bs i [])) → IsBoundary bs q i j
-bound-searched q bs n i j s point e h k b a = record {
-  below = bound-below q bs i j s.ascends s.full h b (λ l. point.0 i [] (omega arith) (omega arith));
-  above = bound-above q bs i j s.ascends s.full h a (λ l. point.1 (suc i) [] (omega arith) l);
-  block = λ _. h;
+bound-found q bs i j s f k b a = record {
+  below = bound-below q bs i j s.ascends s.full f.block b f.starts;
+  above = bound-above q bs i j s.ascends s.full f.block a f.ends;
+  block = λ _. f.block;
   index = k;
 }
 

@@ -1,6 +1,6 @@
 // Finding and changing places beside the cursor that was set last. In work in the order of the places this is where they are, and no
 // shelf is looked for.
-ghost use Rattle.std.specs.Prelude.{◌≡◌, ◌<◌, ◌≤◌, true, Some, None, IfOk, IfErr, IfSome, IfNone, OnOk, OnErr, OnSome, length};
+ghost use Rattle.std.specs.Prelude.{◌≡◌, ◌<◌, ◌≤◌, true, Some, IfOk, IfErr, IfSome, OnOk, OnErr, length};
 ghost use Prim.Native.Nat.{suc};
 ghost use Rattle.std.specs.Option.{option_copied};
 ghost use Rattle.bdb_memory.specs.Entries.{place_at, row_of, IsSetAt};
@@ -13,7 +13,6 @@ use crate::row::Row;
 use crate::shelf::Shelf;
 use crate::shelves::shelf_at;
 use crate::words::Probe;
-use std::alloc::{AllocError, Global};
 
 /// Where a place stands or would stand, and the row there, if there is one. None where it isn't beside the cursor.
 #[inline(always)]
@@ -82,38 +81,6 @@ pub fn swap_beside(
     match shelves[at].swap_beside(spot, probe, row) {
         Ok((spot, before)) => Ok(((at, spot), before)),
         Err(row) => Err(row),
-    }
-}
-
-/// Puts a row at a place, which may be new, and answers where, and what stood there: at Some what the place had, at None nothing. None
-/// where the place isn't beside the cursor.
-#[inline(always)]
-pub fn insert_beside(
-    alloc: Global,
-    shelves: &mut Vec<Shelf>,
-    cursor: Cursor,
-    probe: &Probe<'_>,
-    row: &[u8],
-) -> Result<Option<(Cursor, Option<Option<Row>>)>, AllocError>
-    requires { AreSorted shelves.old.items }
-    ensures sorted { AreSorted shelves.new.items }
-    ensures found { IfOk result (λ put. IfSome put
-        (λ before. place_at (joined shelves.old.items) probe.now ≡ before.1)) }
-    ensures set { IfOk result (λ put. OnSome put (IsSetAt (joined shelves.old.items)
-        (joined shelves.new.items) probe.now (Some (Some row.now)))) }
-    ensures none { IfOk result
-        (λ put. IfNone put (joined shelves.new.items ≡ joined shelves.old.items)) }
-    ensures err { OnErr result (joined shelves.new.items ≡ joined shelves.old.items) }
-{
-    let (at, spot) = cursor;
-    if at >= shelves.len() {
-        return Ok(None);
-    }
-    let is_last = is_last_shelf(shelves, at);
-    match shelves[at].insert_beside(alloc, spot, is_last, probe, row) {
-        Ok(Some((spot, before))) => Ok(Some(((at, spot), before))),
-        Ok(None) => Ok(None),
-        Err(error) => Err(error),
     }
 }
 

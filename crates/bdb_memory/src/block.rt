@@ -1,10 +1,8 @@
 // A block of places in their order.
 ghost use Rattle.std.specs.Prelude.{◌≡◌, ◌<◌, ◌≤◌, ◌∷◌, ◌++◌, [], Some, None, IfOk, OnOk, OnErr, not, length, take, drop, slice_set};
 ghost use Prim.Native.Nat.{suc};
-ghost use Rattle.std.specs.Ordering.{is_lt};
-ghost use Rattle.bdb_keep.specs.Tables.{bytes_cmp};
 ghost use Rattle.bdb_memory.specs.Entries.{AreBelow, NoneBelow, IsAscending};
-ghost use Rattle.bdb_memory.specs.Blocks.{entry_at, starts_within, without_empty, has_any, HasFirst};
+ghost use Rattle.bdb_memory.specs.Blocks.{entry_at, starts_within, without_empty, has_any, HasEntry, HasFirst};
 
 use crate::entry::Entry;
 use crate::head::Head;
@@ -101,6 +99,19 @@ impl Block {
         }
     }
 
+    /// The same where there is a place.
+    #[inline(always)]
+    pub fn begins_within(&self, probe: &Probe<'_>) -> bool
+        requires { HasEntry self.now }
+        ensures { result ≡ starts_within probe.now self.now }
+    {
+        match probe.compare_head(&self.first) {
+            Ordering::Less => true,
+            Ordering::Equal => self.starts_within_alike(probe),
+            Ordering::Greater => false,
+        }
+    }
+
     /// The same where the head doesn't tell.
     fn starts_within_alike(&self, probe: &Probe<'_>) -> bool
         ensures { result ≡ starts_within probe.now self.now }
@@ -111,18 +122,24 @@ impl Block {
         }
     }
 
-    /// The index of the first place that isn't below one that is looked for.
+    /// The index of the first place that isn't below one that is looked for. It goes on by four places, and then by one.
+    #[inline(always)]
     pub fn lower_bound(&self, probe: &Probe<'_>) -> usize
         requires { IsAscending self.now }
         ensures within { result ≤ length self.now }
         ensures below { AreBelow probe.now (take result self.now) }
         ensures above { NoneBelow probe.now (drop result self.now) }
     {
-        self.entries.as_slice().partition_point(
-            |entry: &Entry| -> bool
-                ensures { result ≡ is_lt (bytes_cmp entry.now.0 probe.entry.now) }
-            { entry.is_below(probe) },
-        )
+        let mut at: usize = 0;
+        let mut step: usize = 4;
+        while step > 0 {
+            if self.len() - at >= step && self.entry(at + step - 1).is_below(probe) {
+                at += step;
+            } else {
+                step = shorter_step(step);
+            }
+        }
+        at
     }
 
     /// Puts another row at an index, and answers what stood there.
@@ -141,17 +158,29 @@ impl Block {
             (self.new ≡ take index self.old ++ entry ∷ drop index self.old) }
         ensures err { OnErr result (self.new ≡ self.old) }
     {
+        if index == 0 {
+            return self.insert_first(entry);
+        }
         // Behind all others it moves none.
-        if index > 0 && index == self.entries.len() {
+        if index == self.entries.len() {
             self.entries.push(entry)?;
             return Ok(());
         }
-        let head = entry.head();
         match self.entries.insert(index, entry) {
+            Ok(()) => Ok(()),
+            Err(_) => Err(AllocError),
+        }
+    }
+
+    /// Puts an entry in before all others.
+    fn insert_first(&mut self, entry: Entry) -> Result<(), AllocError>
+        ensures ok { OnOk result (self.new ≡ entry ∷ self.old) }
+        ensures err { OnErr result (self.new ≡ self.old) }
+    {
+        let head = entry.head();
+        match self.entries.insert(0, entry) {
             Ok(()) => {
-                if index == 0 {
-                    self.first = head;
-                }
+                self.first = head;
                 Ok(())
             }
             Err(_) => Err(AllocError),
@@ -176,9 +205,7 @@ impl Block {
         ensures back { IfOk result (λ block. block ≡ drop index self.old) }
         ensures err { OnErr result (self.new ≡ self.old) }
     {
-        let mut entries = self.entries.split_off(index)?;
-        // Room for what will come in. It isn't needed yet, so its want is no error.
-        let _ = entries.reserve(CAPACITY.saturating_sub(entries.len()));
+        let entries = with_room(self.entries.split_off(index)?);
         let first = head_of_first(&entries, self.first);
         Ok(Block { first, entries })
     }
@@ -199,5 +226,35 @@ fn head_of_first(entries: &[Entry], other: Head) -> Head
     match entries.first() {
         Some(entry) => entry.head(),
         None => other,
+    }
+}
+
+/// The same entries with room for what will come in. It isn't needed yet, so where memory runs out they are left as they are. Fresh
+/// memory is taken, since it costs more to make that of a few entries larger.
+fn with_room(mut entries: Vec<Entry>) -> Vec<Entry>
+    ensures { result.items ≡ entries.items }
+{
+    match Vec::with_capacity(*entries.allocator(), CAPACITY) {
+        Ok(mut roomy) => match roomy.append(&mut entries) {
+            Ok(()) => roomy,
+            Err(_) => entries,
+        },
+        Err(_) => entries,
+    }
+}
+
+/// By how many places a search goes on that found the place that is looked for within so many: sixteen, then four, then one; none where
+/// it is found.
+#[inline(always)]
+pub fn shorter_step(step: usize) -> usize
+    ensures shorter { 0 < step → result < step }
+    ensures last { result ≡ 0 → step ≤ 1 }
+{
+    if step > 4 {
+        4
+    } else if step > 1 {
+        1
+    } else {
+        0
     }
 }

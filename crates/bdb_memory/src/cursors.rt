@@ -96,6 +96,9 @@ impl Cursors {
         let at = usize::from(probe.tab() % 16);
         self.written[at] = cursor;
         self.follows[at] = is_in_block(self.read[at], cursor);
+        if self.follows[at] {
+            self.read[at] = cursor;
+        }
         self.remember_used(probe, cursor);
     }
 

@@ -3,10 +3,10 @@ ghost use Rattle.std.specs.Prelude.{◌≡◌, ◌<◌, ◌-◌, ◌^◌, [], tr
 ghost use Rattle.std.specs.declared.cmp.Ordering.TheVariants.{Less, Greater};
 ghost use Rattle.bdb_keep.specs.Tables.{bytes_cmp};
 ghost use Rattle.bdb_memory.specs.Entries.{NoneBelow};
-ghost use Rattle.bdb_memory.specs.Blocks.{joined, before, after, entry_at, starts_within, AreSorted, HaveEntries, IsBoundary, IsThere, StandsAt, BelongsHere};
+ghost use Rattle.bdb_memory.specs.Blocks.{joined, before, after, entry_at, AreSorted, HaveEntries, IsBlockFor, IsBoundary, IsThere, StandsAt, BelongsHere};
 ghost use Rattle.bdb_memory.specs.Shelves.{NoRowFrom, BelongsAmong};
 
-use crate::block::Block;
+use crate::block::{Block, shorter_step};
 use crate::entry::Entry;
 use crate::words::Probe;
 use std::cmp::Ordering;
@@ -174,16 +174,31 @@ pub fn seek(blocks: &[Block], probe: &Probe<'_>) -> Spot
     requires { AreSorted blocks.now }
     ensures { IsBoundary blocks.now probe.now result.0 result.1 }
 {
-    let above = blocks.partition_point(
-        |block: &Block| -> bool
-            ensures { result ≡ starts_within probe.entry.now block.now }
-        { block.starts_within(probe) },
-    );
-    let at = above.saturating_sub(1);
-    if at >= blocks.len() {
+    if blocks.is_empty() {
         return (0, 0);
     }
+    let at = block_for(blocks, probe);
     (at, block_at(blocks, at).lower_bound(probe))
+}
+
+/// The block that a place belongs in. It goes on by sixteen blocks, then by four, and then by one: of a hundred it looks at some
+/// eight, and mostly it goes on as the processor expects.
+#[inline(always)]
+fn block_for(blocks: &[Block], probe: &Probe<'_>) -> usize
+    requires full { HaveEntries blocks.now }
+    requires some { 0 < length blocks.now }
+    ensures { IsBlockFor blocks.now probe.now result }
+{
+    let mut at: usize = 0;
+    let mut step: usize = 16;
+    while step > 0 {
+        if blocks.len() - at > step && block_at(blocks, at + step).begins_within(probe) {
+            at += step;
+        } else {
+            step = shorter_step(step);
+        }
+    }
+    at
 }
 
 /// A block.

@@ -295,42 +295,6 @@ impl Shelf {
             None => None,
         }
     }
-
-    /// Puts a row at a place, which may be new, and answers where, and what stood there: at Some what the place had, at None nothing. None
-    /// where it isn't sure that the place belongs on this shelf.
-    #[inline(always)]
-    pub fn insert_beside(
-        &mut self,
-        alloc: Global,
-        spot: Spot,
-        is_last: bool,
-        probe: &Probe<'_>,
-        row: &[u8],
-    ) -> Result<Option<(Spot, Option<Option<Row>>)>, AllocError>
-        ensures found { IfOk result
-            (λ put. IfSome put (λ before. place_at self.old probe.now ≡ before.1)) }
-        ensures set { IfOk result
-            (λ put. OnSome put
-            (IsChangedAt self.old self.new probe.now (place_at self.old probe.now)
-            (Some (Some row.now)))) }
-        ensures belongs { IfOk result
-            (λ put. OnSome put (BelongsAmong self.old probe.now is_last)) }
-        ensures none { IfOk result (λ put. IfNone put (self.new ≡ self.old)) }
-        ensures err { OnErr result (self.new ≡ self.old) }
-    {
-        match find_beside(&self.blocks, spot, is_last, probe) {
-            Some(Ok(at)) => {
-                let row = Row::of(alloc, row)?;
-                Ok(Some((at, Some(replace_at(&mut self.blocks, at, Some(row))))))
-            }
-            Some(Err(at)) => {
-                let rises = is_behind(spot, at);
-                let at = add(alloc, &mut self.blocks, at, rises, probe, row)?;
-                Ok(Some((at, None)))
-            }
-            None => Ok(None),
-        }
-    }
 }
 
 /// What is done right behind a spot, where rows are put or taken away in the order of their places.

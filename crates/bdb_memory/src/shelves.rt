@@ -8,7 +8,7 @@ ghost use Rattle.bdb_keep.specs.Spans.{AreRowsUnder};
 ghost use Rattle.bdb_memory.specs.Under.{entries_under};
 ghost use Rattle.bdb_memory.specs.Shelves.{NoRowFrom, IsFirstRow};
 
-use crate::beside::{first_row_beside, insert_beside, row_beside, swap_beside};
+use crate::beside::{first_row_beside, row_beside, swap_beside};
 use crate::cursors::{Cursor, CursorPair};
 use crate::entry::Entry;
 use crate::finding::Spot;
@@ -258,34 +258,6 @@ fn swap_on(
 /// Puts a row at a place, which may be new, and answers where, and what stood there: at Some what the
 /// place had, at None nothing.
 pub fn insert(
-    alloc: Global,
-    shelves: &mut Vec<Shelf>,
-    near: CursorPair,
-    probe: &Probe<'_>,
-    row: &[u8],
-) -> Result<(Cursor, Option<Option<Row>>), AllocError>
-    requires { AreSorted shelves.old.items }
-    ensures sorted { AreSorted shelves.new.items }
-    ensures found { IfOk result (λ before. place_at (joined shelves.old.items) probe.now
-        ≡ before.1) }
-    ensures set { OnOk result (IsSetAt (joined shelves.old.items) (joined shelves.new.items)
-        probe.now (Some (Some row.now))) }
-    ensures err { OnErr result (joined shelves.new.items ≡ joined shelves.old.items) }
-{
-    match insert_beside(alloc, shelves, near.0, probe, row) {
-        Ok(Some((cursor, before))) => {
-            if has_room(shelves, cursor.0) {
-                return Ok((cursor, before));
-            }
-            Ok((cut_full(shelves, cursor), before))
-        }
-        Ok(None) => insert_searched(alloc, shelves, near, probe, row),
-        Err(error) => Err(error),
-    }
-}
-
-/// The same by the shelf where the place belongs.
-fn insert_searched(
     alloc: Global,
     shelves: &mut Vec<Shelf>,
     near: CursorPair,

@@ -1,7 +1,7 @@
 use Rattle.std.proofs.Common.{◌≡◌, [], Some, rules}
 use Rattle.bdb_memory.specs.Blocks.{joined}
 use Rattle.bdb_memory.proofs.ShelvesLemmas.{first-shelf}
-use Rattle.bdb_memory.proofs.shelves.insert_searched.Goals as goal
+use Rattle.bdb_memory.proofs.shelves.insert.Goals as goal
 
 pub returns-in_ok-push-in-None-clause-sorted : goal.returns-in_ok-push-in-None-clause-sorted
 returns-in_ok-push-in-None-clause-sorted c =
