@@ -91,11 +91,11 @@ next-above q (c ∷ bs) zero a f h r = first bs (ascending-parts c (joined bs) a
     first ((e ∷ es) ∷ ds) p f h = ap is_le (nat_list_cmp_total.antisymm e.0 q ∙ ap ordering_reverse (next-less q c e (es ++ joined ds) p r))
 next-above q (c ∷ bs) (suc i) a f h r = next-above q bs i (ascending-parts c (joined bs) a).1 f.1 (omega arith) r
 
-pub shelf-belongs : (bs : List Entries) (q : List ℕ) (i : ℕ) (last : Bool) → AreSorted bs → i < length bs → BelongsAmong (get_or bs i []) q last → (last ≡ true → length bs ≤ suc i) → IsBlockFor bs q i
+pub shelf-belongs : (bs : List Entries) (q : List ℕ) (i : ℕ) (last : Bool) → AreSorted bs → i < length bs → BelongsAmong (get_or bs i []) q last → (last ≡ true → suc i < length bs → starts_within q (get_or bs (suc i) []) ≡ false) → IsBlockFor bs q i
 shelf-belongs bs q i last s h b e = record { block = h; starts = λ _. b.starts; ends = ends last e b.ends }
   where
-    ends : (last : Bool) → (last ≡ true → length bs ≤ suc i) → (last ≡ false → ReachesPlace q (get_or bs i [])) → suc i < length bs → starts_within q (get_or bs (suc i) []) ≡ false
-    ends true e r l = absurd (let n = e refl in omega arith)
+    ends : (last : Bool) → (last ≡ true → suc i < length bs → starts_within q (get_or bs (suc i) []) ≡ false) → (last ≡ false → ReachesPlace q (get_or bs i [])) → suc i < length bs → starts_within q (get_or bs (suc i) []) ≡ false
+    ends true e r l = e refl l
     ends false e r l = next-above q bs i s.ascends s.full l (r refl)
 
 -- a shelf that isn't the last one
@@ -103,7 +103,7 @@ pub shelf-beside : (bs : List Entries) (q : List ℕ) (i : ℕ) → AreSorted bs
 shelf-beside bs q i s h b = shelf-belongs bs q i false s h b (λ e. absurd (true≢false (sym e)))
 
 -- what follows for all shelves where something was put on the shelf where its place belongs
-pub shelf-put : (bs : List Entries) (old new : Entries) (q : List ℕ) (i : ℕ) (last : Bool) (r : Option (List ℕ)) → AreSorted bs → i < length bs → old ≡ get_or bs i old → BelongsAmong old q last → (last ≡ true → length bs ≤ suc i)
+pub shelf-put : (bs : List Entries) (old new : Entries) (q : List ℕ) (i : ℕ) (last : Bool) (r : Option (List ℕ)) → AreSorted bs → i < length bs → old ≡ get_or bs i old → BelongsAmong old q last → (last ≡ true → suc i < length bs → starts_within q (get_or bs (suc i) []) ≡ false)
     → IsChangedAt old new q (place_at old q) (Some r) → AreSorted (set bs i new) × ((place_at (joined bs) q ≡ place_at old q) × IsSetAt (joined bs) (joined (set bs i new)) q (Some r))
 shelf-put bs old new q i last r s h v b e c =
     let read : old ≡ get_or bs i [] = block-read bs i old v h in

@@ -1,17 +1,17 @@
 // Finding and changing places beside the cursor that was set last. In work in the order of the places this is where they are, and no
 // shelf is looked for.
-ghost use Rattle.std.specs.Prelude.{◌≡◌, ◌<◌, ◌≤◌, true, Some, IfOk, IfErr, IfSome, OnOk, OnErr, length};
+ghost use Rattle.std.specs.Prelude.{◌≡◌, ◌<◌, [], true, false, Some, IfOk, IfErr, IfSome, OnOk, OnErr, length, slice_index_or};
 ghost use Prim.Native.Nat.{suc};
 ghost use Rattle.std.specs.Option.{option_copied};
 ghost use Rattle.bdb_memory.specs.Entries.{place_at, row_of, IsSetAt};
-ghost use Rattle.bdb_memory.specs.Blocks.{joined, AreSorted};
+ghost use Rattle.bdb_memory.specs.Blocks.{joined, starts_within, AreSorted};
 ghost use Rattle.bdb_memory.specs.Shelves.{IsFirstRow};
 
 use crate::cursors::Cursor;
 use crate::entry::Entry;
 use crate::row::Row;
 use crate::shelf::Shelf;
-use crate::shelves::shelf_at;
+use crate::shelves::{is_from, shelf_at};
 use crate::words::Probe;
 
 /// Where a place stands or would stand, and the row there, if there is one. None where it isn't beside the cursor.
@@ -84,11 +84,15 @@ pub fn swap_beside(
     }
 }
 
-/// Whether there is no shelf behind this one.
+/// Whether it is known that nothing behind a cursor's shelf is at or below a place. It is looked at only where the cursor is in the last
+/// block of the shelf: elsewhere what stands beside the cursor tells.
 #[inline(always)]
-pub fn is_last_shelf(shelves: &[Shelf], at: usize) -> bool
-    requires { at < length shelves.now }
-    ensures { result ≡ true → length shelves.now ≤ suc at }
+pub fn is_last_for(shelves: &[Shelf], cursor: Cursor, probe: &Probe<'_>) -> bool
+    requires { cursor.0 < length shelves.now }
+    ensures { result ≡ true → suc cursor.0 < length shelves.now
+        → starts_within probe.now (slice_index_or shelves.now (suc cursor.0) []) ≡ false }
 {
-    at + 1 >= shelves.len()
+    let (at, spot) = cursor;
+    let is_in_last_block = spot.0.saturating_add(1) >= shelf_at(shelves, at).block_count();
+    is_in_last_block && !is_from(shelves, at + 1, probe)
 }

@@ -167,8 +167,8 @@ pub fn find_behind(
     }
 }
 
-/// Where the first place stands, or would stand, that isn't below the one that is looked for, by binary search: first the block,
-/// and then the index in it.
+/// Where the first place stands, or would stand, that isn't below the one that is looked for: first the block, and then the index in
+/// it.
 #[inline(always)]
 pub fn seek(blocks: &[Block], probe: &Probe<'_>) -> Spot
     requires { AreSorted blocks.now }

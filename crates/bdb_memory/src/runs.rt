@@ -3,7 +3,7 @@ ghost use Rattle.std.specs.Prelude.{◌≡◌, Some, None, IfSome, IfNone, OnSom
 ghost use Rattle.bdb_memory.specs.Entries.{place_at, row_of, IsSetAt};
 ghost use Rattle.bdb_memory.specs.Blocks.{joined, AreSorted};
 
-use crate::beside::is_last_shelf;
+use crate::beside::is_last_for;
 use crate::cursors::Cursor;
 use crate::row::Row;
 use crate::shelf::Shelf;
@@ -69,7 +69,7 @@ fn put_on(
     if at >= shelves.len() {
         return None;
     }
-    let is_last = is_last_shelf(shelves, at);
+    let is_last = is_last_for(shelves, cursor, probe);
     match shelves[at].put_behind(alloc, spot, is_last, probe, row) {
         Some((spot, is_new, before)) => Some(((at, spot), is_new, before)),
         None => None,
@@ -119,7 +119,7 @@ fn add_on(
     if at >= shelves.len() {
         return None;
     }
-    let is_last = is_last_shelf(shelves, at);
+    let is_last = is_last_for(shelves, cursor, probe);
     match shelves[at].add_beside(alloc, spot, is_last, probe, row) {
         Some(spot) => Some((at, spot)),
         None => None,

@@ -511,7 +511,7 @@ fn shelf_behind(shelves: &[Shelf], start: usize, probe: &Probe<'_>) -> Option<us
 
 /// Whether there is a shelf at an index, and a place isn't before it: it isn't below its first place, or it is the first shelf.
 #[inline(always)]
-fn is_from(shelves: &[Shelf], at: usize, probe: &Probe<'_>) -> bool
+pub fn is_from(shelves: &[Shelf], at: usize, probe: &Probe<'_>) -> bool
     ensures shelf { result ≡ true → at < length shelves.now }
     ensures starts { result ≡ true → 0 < at
         → starts_within probe.now (slice_index_or shelves.now at []) ≡ true }
