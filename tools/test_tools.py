@@ -37,6 +37,21 @@ class Pages(unittest.TestCase):
         self.assertEqual([], wrong)
         self.assertGreater(count, 40)
 
+    def check_page(self, text):
+        program('')
+        with tempfile.TemporaryDirectory() as folder:
+            with open(f'{folder}/page.md', 'w', encoding='utf-8') as it:
+                it.write(text)
+            return check_pages.check([os.path.relpath(f'{folder}/page.md', check_pages.ROOT)], check_pages.program_path())[0]
+
+    def test_a_wrong_reply_is_found(self):
+        page = '<!-- try\n$ beliefdb run\ncreate user \'A\';\nok\n-->\ntext\n```console\nselect U.name from\nUsers U;\n\'A\'\nok 1\n```\n'
+        self.assertEqual([], self.check_page(page))
+        self.assertIn('+ok 1', self.check_page(page.replace('ok 1', 'ok 2')))
+        self.assertIn("+'A'", self.check_page(page.replace("'A'\nok 1", "'B'\nok 1")))
+        with self.assertRaises(ValueError):
+            self.check_page(page.replace('console', 'sql'))
+
     def test_each_tool_has_a_page_of_help(self):
         for name in ('to_bsql', 'to_csv', 'explain_errors', 'draw', 'check_pages'):
             status, text, _ = tool(name, '--help')
