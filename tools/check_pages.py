@@ -21,7 +21,8 @@ from bsql import pieces_of
 
 ROOT = os.path.dirname(os.path.dirname(os.path.abspath(__file__)))
 PAGES = ['README.md', 'docs/TOUR.md', 'docs/LANGUAGE.md', 'docs/FILES.md']
-BLOCK = re.compile(r'^(?:<!-- file (?P<file>\S+) -->\n)?```(?P<mark>\w*)\n(?P<text>.*?)^```$|^<!-- try\n(?P<hidden>.*?)^-->$', re.DOTALL | re.MULTILINE)
+BLOCK = re.compile(r'^(?:<!-- file (?P<file>\S+) -->\n)?```(?P<mark>\w*)\n(?P<text>.*?)^```$|^<!-- try\n(?P<hidden>.*?)^-->$',
+                   re.DOTALL | re.MULTILINE)
 PROMPT = re.compile(r'beliefdb (run|many)( --db \S+)?')
 COMMAND = re.compile(r'(create|drop|insert|delete|update|select|explain|show (world|tables)|why|undo|redo)\b|--|[0-9]+ \w')
 

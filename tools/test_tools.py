@@ -45,7 +45,7 @@ class Pages(unittest.TestCase):
             return check_pages.check([os.path.relpath(f'{folder}/page.md', check_pages.ROOT)], check_pages.program_path())[0]
 
     def test_a_wrong_reply_is_found(self):
-        page = '<!-- try\n$ beliefdb run\ncreate user \'A\';\nok\n-->\ntext\n```console\nselect U.name from\nUsers U;\n\'A\'\nok 1\n```\n'
+        page = "<!-- try\n$ beliefdb run\ncreate user 'A';\nok\n-->\ntext\n```console\nselect U.name from\nUsers U;\n'A'\nok 1\n```\n"
         self.assertEqual([], self.check_page(page))
         self.assertIn('+ok 1', self.check_page(page.replace('ok 1', 'ok 2')))
         self.assertIn("+'A'", self.check_page(page.replace("'A'\nok 1", "'B'\nok 1")))
@@ -83,7 +83,8 @@ class ToBsql(unittest.TestCase):
         self.assertEqual('ok\nok 1\nok 1\n', program(script))
 
     def test_curators_denials_and_keys(self):
-        _, script, _ = self.convert('who,a,b\nAnna,x,y\n,x,z\n', '--by', 'who', '--users', '--create', '--key', '2', '--not', '--belief', 'Ben')
+        _, script, _ = self.convert('who,a,b\nAnna,x,y\n,x,z\n', '--by', 'who', '--users', '--create',
+                                    '--key', '2', '--not', '--belief', 'Ben')
         self.assertEqual(["create user 'Ben';", "create user 'Anna';", 'create relation R(a text, b text) key 2;',
                           "insert into BELIEF 'Ben' BELIEF 'Anna' not R values('x', 'y');",
                           "insert into BELIEF 'Ben' not R values('x', 'z');"], script.splitlines())
@@ -127,7 +128,8 @@ class ToCsv(unittest.TestCase):
 
     def test_worlds(self):
         replies = program(self.SCRIPT + "show world BELIEF 'Ann';")
-        self.assertEqual('sign,mark,k,n\n-,explicit,"it\'s, so",-1\n', tool('to_csv', '--relation', 'R', '--columns', 'k,n', text=replies)[1])
+        self.assertEqual('sign,mark,k,n\n-,explicit,"it\'s, so",-1\n', 
+                         tool('to_csv', '--relation', 'R', '--columns', 'k,n', text=replies)[1])
         self.assertEqual('-,explicit,R,"it\'s, so",-1\n+,inherited,S,""""\n', tool('to_csv', text=replies)[1])
 
     def test_errors_and_broken_replies(self):
@@ -146,7 +148,8 @@ class ExplainErrors(unittest.TestCase):
             return tool('explain_errors', f'{folder}/script', f'{folder}/replies', *words)
 
     def test_an_open_text_is_found(self):
-        status, told, _ = self.explain("create relation S(k text);\n-- it's\ninsert into S values('O'Brien');\ninsert into S values('x');\n")
+        status, told, _ = self.explain(
+            "create relation S(k text);\n-- it's\ninsert into S values('O'Brien');\ninsert into S values('x');\n")
         self.assertEqual(1, status)
         self.assertIn('line 3 to 4: insert', told)
         self.assertIn('a text that begins in line 3', told)

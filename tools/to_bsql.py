@@ -28,11 +28,13 @@ def words():
     parser = argparse.ArgumentParser(description=__doc__, epilog=EXAMPLES, formatter_class=argparse.RawDescriptionHelpFormatter)
     parser.add_argument('csv', help='the CSV, in UTF-8; - is standard input')
     parser.add_argument('--relation', required=True, metavar='NAME', help='the relation that the rows belong to')
-    parser.add_argument('--columns', metavar='A,B=HEADER,..', help='its columns, in order, each under its header or as NAME=HEADER; else all but that of --by')
+    parser.add_argument('--columns', metavar='A,B=HEADER,..',
+                        help='its columns, in order, each under its header or as NAME=HEADER; else all but that of --by')
     parser.add_argument('--int', default='', metavar='A,B', help='the columns that are whole numbers; all others are text')
     parser.add_argument('--create', action='store_true', help='write `create relation` first')
     parser.add_argument('--key', type=int, default=1, metavar='N', help='how many first columns are the key (1)')
-    parser.add_argument('--belief', action='append', default=[], metavar='NAME', help='a curator of the path, outermost first; may be repeated')
+    parser.add_argument('--belief', action='append', default=[], metavar='NAME',
+                        help='a curator of the path, outermost first; may be repeated')
     parser.add_argument('--by', metavar='HEADER', help='the column that names whose belief a row is; an empty cell is the list')
     parser.add_argument('--users', action='store_true', help='write `create user` for each curator named, first of all')
     parser.add_argument('--not', dest='denied', action='store_true', help='the rows are denied')
@@ -68,6 +70,8 @@ def value_of(cell, whole):
     if not whole:
         return quoted(cell), text_problem(cell)
     number = cell.strip()
+    if not number:
+        return None, 'an empty cell is no whole number; see --skip-empty'
     if not re.fullmatch('-?[0-9]+', number):
         return None, f'{cell!r} is no whole number'
     return str(int(number)), None if -2**63 <= int(number) < 2**63 else f'{number} leaves 64 bits'
@@ -87,7 +91,8 @@ class Reader:
     def look_at_names(self, header):
         names = [name for name, _, _ in self.columns]
         self.problems += filter(None, map(name_problem, [self.options.relation] + names))
-        self.problems += [f'no column is headed {title!r}; there are {", ".join(header)}' for _, place, title in self.columns if place is None]
+        missing = [title for _, place, title in self.columns if place is None]
+        self.problems += [f'no column is headed {title!r}; there are {", ".join(header)}' for title in missing]
         self.problems += [f'--int names {name!r}, which is none of the columns' for name in sorted(self.whole - set(names))]
         self.problems += [f'two columns are named {name!r}' for name in sorted({it for it in names if names.count(it) > 1})]
         if self.options.relation == 'Users':
