@@ -13,7 +13,8 @@ import sys
 from bsql import quoted
 
 RESERVED = set('and as belief delete from insert into not or select set update values where'.split())
-MOST_COLUMNS, LONGEST_TEXT, MOST_TUPLES, MOST_STATEMENTS, MOST_WAITING, DEEPEST = 16, 255, 4000, 20000, 64, 64
+MOST_COLUMNS, LONGEST_TEXT, MOST_USERS, MOST_TUPLES, MOST_STATEMENTS = 16, 255, 1024, 4000, 20000
+MOST_WAITING, DEEPEST = 64, 64
 EXAMPLES = """examples:
   to_bsql.py sheets.csv --relation Plants --columns sheet,plant --create > plants.bsql
       the relation Plants, and the list's plants
@@ -40,7 +41,7 @@ def words():
     parser.add_argument('--not', dest='denied', action='store_true', help='the rows are denied')
     parser.add_argument('--skip-empty', action='store_true', help='leave out each row that has nothing in one of the columns')
     parser.add_argument('--delimiter', default=',', metavar='SIGN', help='what stands between two cells (a comma)')
-    parser.add_argument('--many', nargs='?', const=0, type=int, metavar='SESSION',
+    parser.add_argument('--many', nargs='?', const=0, type=int, choices=range(16), metavar='SESSION',
                         help='write lines for `beliefdb many` in batches of 64, of this session (0)')
     return parser.parse_args()
 
@@ -142,6 +143,9 @@ class Reader:
             self.problems.append(f'{different} different rows, and a database holds {MOST_TUPLES}')
         if len(self.statements) > MOST_STATEMENTS:
             self.problems.append(f'{len(self.statements)} statements, and a database holds {MOST_STATEMENTS}')
+        users = len({name for path, _ in self.statements for name in path})
+        if users > MOST_USERS:
+            self.problems.append(f'{users} curators, and a database holds {MOST_USERS}')
         if len(self.options.belief) + bool(self.options.by) > DEEPEST:
             self.problems.append(f'a path has at most {DEEPEST} curators')
 
@@ -191,7 +195,9 @@ def main():
     options = words()
     try:
         reader = read(options)
-    except (OSError, UnicodeDecodeError, csv.Error) as error:
+    except UnicodeDecodeError:
+        sys.exit(f'to_bsql.py: {options.csv} isn\'t in UTF-8: save it in that encoding')
+    except (OSError, TypeError, csv.Error) as error:
         sys.exit(f'to_bsql.py: {options.csv}: {error}')
     if reader.problems:
         more = [f'.. and {len(reader.problems) - 20} more'] if len(reader.problems) > 20 else []
