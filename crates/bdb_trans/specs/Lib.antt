@@ -4,5 +4,6 @@ pub mod Orders
 pub mod TransLaws
 -- words between crates, and for private loops and lemmas
 pub mod Names
+pub mod Passing
 pub mod Steps
 pub mod Turns

@@ -36,3 +36,9 @@ pub record IsOrder (q : Query) (order : List ℕ) : Type 0 where
 -- the plan that sets the items in this order, and makes each comparison as soon as both of its sides are set
 abbrev pub plan_in : List RelDef → Query → List ℕ → PlanFields
 plan_in rels q order = record { items = length q.items; steps = steps_from rels q [] order; take = q.take }
+
+-- a plan is that of some order in which all items can be set
+pub record IsPlanInOrder (rels : List RelDef) (q : Query) (plan : PlanFields) : Type 0 where
+  pub order : List ℕ
+  pub can : IsOrder q order
+  pub is : plan ≡ plan_in rels q order
