@@ -13,12 +13,19 @@ use std::alloc::{AllocError, Global};
 
 // What speaks for an item as the next one, from the most to the least.
 const APART: u32 = 128;
+
 const EQUAL: u32 = 64;
+
 const EQUAL_TWICE: u32 = 32;
+
 const COMPARED: u32 = 16;
+
 const EQUAL_TO_LITERAL: u32 = 8;
+
 const TESTED: u32 = 4;
+
 const TAKEN: u32 = 2;
+
 const READY: u32 = 1;
 
 /// An order in which the items of a query are set when it is run. What nothing ties to the answer comes first; then, each time,
