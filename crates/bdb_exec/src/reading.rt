@@ -8,6 +8,7 @@ ghost use Rattle.bdb_exec.specs.Memos.{Recalls};
 ghost use Rattle.bdb_exec.specs.Readable.{CanBeRun};
 ghost use Rattle.bdb_exec.specs.Seen.{sight_of};
 
+use crate::index::by_columns;
 use crate::keys::asks_for_key;
 use crate::looking::{plus_tuples, plus_tuples_of_key, users};
 use crate::memo::Memo;
@@ -158,11 +159,16 @@ fn of_relation<K: Keeper>(
 {
     let world = state.world();
     let place = (world, rel);
+    let slots = state.slots();
     match memo.pools.get(&place) {
         Some(all) => {
-            return match let_through(alloc, keeper, item, state, behind, all.as_slice()) {
+            let all = all.as_slice();
+            return match by_columns(alloc, &mut memo.indexes, place, slots, item, behind, all) {
                 Ok(pool) => Ok(pool),
-                Err(error) => Err(error),
+                Err(_) => {
+                    keeper.undo();
+                    Err(TabError::Memory)
+                }
             };
         }
         None => {}
@@ -171,9 +177,20 @@ fn of_relation<K: Keeper>(
         Ok(all) => all,
         Err(error) => return Err(error),
     };
-    let pool = match let_through(alloc, keeper, item, state, behind, all.as_slice()) {
+    let pool = match by_columns(
+        alloc,
+        &mut memo.indexes,
+        place,
+        slots,
+        item,
+        behind,
+        all.as_slice(),
+    ) {
         Ok(pool) => pool,
-        Err(error) => return Err(error),
+        Err(_) => {
+            keeper.undo();
+            return Err(TabError::Memory);
+        }
     };
     match memo.pools.insert(place, all) {
         Ok(_) => Ok(pool),
