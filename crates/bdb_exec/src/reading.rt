@@ -136,7 +136,8 @@ fn some_tuples<K: Keeper>(
     }
 }
 
-// The same where the tests ask for no key. The world's tuples are read where they weren't yet.
+// The same where the tests ask for no key. The world's tuples are read where they weren't yet, and from then on looked up by the
+// columns that tests ask for.
 fn of_relation<K: Keeper>(
     alloc: Global,
     keeper: &mut K,
@@ -159,9 +160,9 @@ fn of_relation<K: Keeper>(
 {
     let world = state.world();
     let place = (world, rel);
-    let slots = state.slots();
     match memo.pools.get(&place) {
         Some(all) => {
+            let slots = state.slots();
             let all = all.as_slice();
             return match by_columns(alloc, &mut memo.indexes, place, slots, item, behind, all) {
                 Ok(pool) => Ok(pool),
@@ -177,20 +178,9 @@ fn of_relation<K: Keeper>(
         Ok(all) => all,
         Err(error) => return Err(error),
     };
-    let pool = match by_columns(
-        alloc,
-        &mut memo.indexes,
-        place,
-        slots,
-        item,
-        behind,
-        all.as_slice(),
-    ) {
+    let pool = match let_through(alloc, keeper, item, state, behind, all.as_slice()) {
         Ok(pool) => pool,
-        Err(_) => {
-            keeper.undo();
-            return Err(TabError::Memory);
-        }
+        Err(error) => return Err(error),
     };
     match memo.pools.insert(place, all) {
         Ok(_) => Ok(pool),

@@ -41,7 +41,6 @@ pub returns-in-Ok-insert-clause-memo : goal.returns-in-Ok-insert-clause-memo
 returns-in-Ok-insert-clause-memo g c =
     let t = (g.K.Keeper.seen c.args.keeper.now).kept in
     let sight = sight_of t in
-    let all : c.as_slice.result.now ≡ place_pool t (c.world-world.result, c.args.rel) = c.as_slice.ensures ∙ c.in-Ok-plus_tuples.ensures.tuples in
     let h = c.in-Ok-plus_tuples.ensures.memo in (
       h.0,
       h.1,
@@ -50,5 +49,5 @@ returns-in-Ok-insert-clause-memo g c =
       h.3,
       h.4,
       h.5,
-      c.in-Ok-by_columns.ensures.indexes t all h.6,
+      h.6,
     )
