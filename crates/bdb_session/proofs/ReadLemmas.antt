@@ -44,7 +44,6 @@ use Rattle.bdb_keep.specs.Seen.{Seen}
 use Rattle.bdb_keep.specs.Tables.{Tables, bytes_cmp}
 use Rattle.bdb_key.specs.Grammar.{IsNum}
 use Rattle.bdb_paths.proofs.SuffixLemmas.{deepest_is_member, deepest_of_member}
-use Rattle.bdb_plan.specs.PlanOf.{plan_of}
 use Rattle.bdb_plan.specs.Fitness.{PlanFields}
 use Rattle.bdb_plan.specs.Running.{reads_from, start_of}
 use Rattle.bdb_plan.specs.Sight.{has_signed}

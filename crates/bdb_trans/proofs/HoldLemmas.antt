@@ -36,13 +36,13 @@ use Rattle.bdb_queries.proofs.UserLemmas.{found_name}
 use Rattle.bdb_plan.specs.declared.step.Step.{Step}
 use Rattle.bdb_plan.specs.Fitness.{is_among}
 use Rattle.bdb_plan.specs.Holding.{world_if, world_at_end, steps_hold}
-use Rattle.bdb_plan.specs.PlanOf.{places, is_users, is_plus, is_minus_item, operand_set, all_set, due, item_steps, steps_from, order_of}
+use Rattle.bdb_plan.specs.PlanOf.{places, operand_set, all_set, due, item_steps, steps_from}
 use Rattle.bdb_plan.specs.Shown.{Shows}
 use Rattle.bdb_plan.specs.Sight.{Sight}
 use Rattle.bdb_plan.specs.Sources.{source_of}
 use Rattle.bdb_trans.specs.Orders.{who_among, Needs, OrderFits, IsOrder}
 use Rattle.bdb_trans.proofs.ItemLemmas.{Means, KnownPath, EqualsSource, EqualSources, SettingSays, DenyingSays, item_means, Each, OrderSays, order_means}
-use Rattle.bdb_trans.proofs.PlaceLemmas.{each_of_all, each_at, each_place, from_zero, place_found, in_order}
+use Rattle.bdb_trans.proofs.PlaceLemmas.{each_of_all, each_at, from_zero}
 use Rattle.bdb_trans.proofs.SourceLemmas.{move_on, here_at, one_kind_is, joined_keeps, conds_keep_kinds, bound_has_source, IsSource, literal, column, source_is, source_known, source_holds}
 use Rattle.bdb_trans.proofs.StepLemmas.{end_append}
 

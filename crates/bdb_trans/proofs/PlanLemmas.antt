@@ -17,7 +17,7 @@ use Rattle.bdb_queries.proofs.HoldingLemmas.{items_fit, held_slots_of_row, held_
 use Rattle.bdb_plan.specs.declared.step.Step.{Step}
 use Rattle.bdb_plan.specs.Fitness.{at_width, fits_from, at_first, UsesOnlySet}
 use Rattle.bdb_plan.specs.Holding.{IsPlanRow}
-use Rattle.bdb_plan.specs.PlanOf.{plan_steps, plan_of, steps_from, order_of}
+use Rattle.bdb_plan.specs.PlanOf.{plan_steps, steps_from, order_of}
 use Rattle.bdb_plan.specs.Running.{meaning_of}
 use Rattle.bdb_plan.specs.Shown.{Shows}
 use Rattle.bdb_plan.specs.Sight.{Sight}

@@ -34,7 +34,7 @@ use Rattle.bdb_queries.specs.Slots.{slot_at, known_operand, must_hold, uid_of, p
 use Rattle.bdb_queries.proofs.UserLemmas.{user_of_test}
 use Rattle.bdb_plan.specs.Fitness.{is_among}
 use Rattle.bdb_plan.specs.Holding.{differ, world_if, world_after, world_at_end}
-use Rattle.bdb_plan.specs.PlanOf.{differ_from, walk_from, walk_of, bind_of, binds_from, due, item_steps, steps_from, order_of, places, is_users, is_plus, is_minus_item, plan_steps}
+use Rattle.bdb_plan.specs.PlanOf.{differ_from, walk_from, walk_of, bind_of, binds_from, due, item_steps, steps_from, order_of, places, plan_steps}
 use Rattle.bdb_plan.specs.Running.{Reached, with_world, with_slot, with_value, plus_tuples, reached_if, after, own_reads, reads_from, start_of, denied}
 use Rattle.bdb_plan.specs.Shown.{Shows}
 use Rattle.bdb_plan.specs.Sight.{Sight}
@@ -43,9 +43,8 @@ use Rattle.bdb_plan.specs.declared.step.Step.{Step}
 use Rattle.bdb_plan.specs.declared.step.Step.TheVariants as step
 use Rattle.bdb_plan.proofs.StandLemmas.{slot_set, slot_other}
 use Rattle.bdb_trans.specs.Bounds.{factor, product_of, AreSmall, OrdersReadFew, PlanReadsAreBounded}
-use Rattle.bdb_trans.specs.Orders.{who_among, Needs, OrderFits, IsOrder}
+use Rattle.bdb_trans.specs.Orders.{who_among, Needs, OrderFits}
 use Rattle.bdb_trans.proofs.FitLemmas.{path_fits, written_order}
-use Rattle.bdb_trans.proofs.PlaceLemmas.{from_zero}
 use Rattle.bdb_trans.proofs.StepLemmas.{end_append}
 use Rattle.bdb_trans.proofs.WalkLemmas.{walk_comes}
 

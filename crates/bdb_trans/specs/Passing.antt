@@ -1,5 +1,5 @@
 -- A test of orders that computes.
-use Rattle.std.specs.Prelude.{◌≡◌, ℕ, ◌+◌, Bool, true, false, not, ◌&&◌, ◌||◌, List, [], ◌∷◌, Option, Some, None}
+use Rattle.std.specs.Prelude.{ℕ, ◌+◌, Bool, true, false, not, ◌&&◌, ◌||◌, List, [], ◌∷◌, Option, Some, None}
 use Rattle.std.specs.List.{list_all, slice_get}
 use Rattle.bdb_base.specs.Safety.{is_given}
 use Rattle.bdb_base.specs.declared.kinds.Item.{Item}

@@ -1,6 +1,6 @@
 // Whether the items of a query can be set in an order.
 ghost use Rattle.std.specs.Prelude.{◌≡◌, ◌+◌, ◌<◌, ◌^◌, length, IfOk, Some};
-ghost use Rattle.std.specs.List.{list_all, slice_get};
+ghost use Rattle.std.specs.List.{list_all};
 ghost use Rattle.bdb_base.specs.Safety.{is_given};
 ghost use Rattle.bdb_trans.specs.Orders.{who_among};
 ghost use Rattle.bdb_trans.specs.Passing.{comes_after, given_set, needs_set, order_passes};

@@ -1,4 +1,4 @@
-use Rattle.std.proofs.Common.{◌≡◌, ◌∙◌, ap, rules, []}
+use Rattle.std.proofs.Common.{◌≡◌, rules, []}
 use Rattle.bdb_plan.specs.PlanOf.{steps_from}
 use Rattle.bdb_trans.proofs.PlanLemmas.{order_uses_only_set}
 use Rattle.bdb_trans.proofs.translation.translate_to_run.Goals as goal
