@@ -52,11 +52,6 @@ if_some : (t : Bool) (n m : ℕ) → world_if t n ≡ Some m → t ≡ true
 if_some true n m e = refl
 if_some false n m e = cc
 
-pub means_holds : {F : Type 0} (sight : Sight) (zs : List (Option Tuple)) (n : ℕ) (xs : List Step) → Means sight zs n xs F → is_some (world_at_end sight zs n xs) ≡ true → F
-means_holds sight zs n xs f h =
-    let m = some_of (world_at_end sight zs n xs) h in
-    f.sound (if_some f.test f.end m.0 (sym f.is ∙ m.1))
-
 pub holds_means : {F : Type 0} (sight : Sight) (zs : List (Option Tuple)) (n : ℕ) (xs : List Step) → Means sight zs n xs F → F → is_some (world_at_end sight zs n xs) ≡ true
 holds_means sight zs n xs f h = ap is_some (f.is ∙ ap (λ t. world_if t f.end) (f.whole h))
 

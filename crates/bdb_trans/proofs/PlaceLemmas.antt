@@ -11,11 +11,6 @@ use Rattle.bdb_base.specs.declared.kinds.Sign.TheVariants.{Plus, Minus}
 use Rattle.bdb_plan.specs.Fitness.{is_among}
 use Rattle.bdb_plan.specs.PlanOf.{places, is_users, is_plus, is_minus_item, order_of}
 use Rattle.bdb_trans.proofs.ItemLemmas.{Each}
-use Rattle.bdb_trans.proofs.SourceLemmas.{move_on, here_at}
-
-pub each_append : (F : ℕ → Type 0) (xs ys : List ℕ) → Each F xs → Each F ys → Each F (xs ++ ys)
-each_append F [] ys h g = g
-each_append F (x ∷ xs) ys h g = (h.0, each_append F xs ys h.1 g)
 
 pub each_of_all : (F : ℕ → Type 0) (xs : List ℕ) → ((at : ℕ) → F at) → Each F xs
 each_of_all F [] h = tt
