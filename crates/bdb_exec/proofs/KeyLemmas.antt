@@ -122,6 +122,11 @@ module _ (slots : List (Option Tuple)) (item : ℕ) (t : Tuple) (lt : item < len
     value_there (step.Bind a b d ∷ xs) v k h = absurd (none_is_some v k)
     value_there (step.Neg a b ∷ xs) v k h = absurd (none_is_some v k)
 
+  -- a tuple that the tests right behind let through has the value that they ask for
+  pub asked_there : (xs : List Step) → passes slots item xs t ≡ true → (col : ℕ) (v : Value) → value_behind slots item xs col ≡ Some v → slice_get t.vals col ≡ Some v
+  unfolding set
+  asked_there xs h col v e = value_there col xs v e h
+
   -- from each column on it has the values that they ask for
   values_there : (xs : List Step) → tests_hold set xs ≡ true → (most col : ℕ) → take (length (values_behind slots item xs most col)) (drop col t.vals) ≡ values_behind slots item xs most col
   values_there xs h zero col = refl

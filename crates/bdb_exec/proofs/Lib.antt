@@ -4,6 +4,7 @@ mod SpelledLemmas
 mod RelLemmas
 pub mod TypedLemmas
 mod KeyLemmas
+mod IndexLemmas
 mod PrefixLemmas
 mod RunLemmas
 pub mod WorldLemmas

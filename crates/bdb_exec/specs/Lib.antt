@@ -4,6 +4,7 @@ pub mod Spelled
 -- words between crates, and for private loops and lemmas
 pub mod Based
 pub mod Coming
+pub mod Indexes
 pub mod Keys
 pub mod LookUps
 pub mod Looks

@@ -8,6 +8,7 @@ use Rattle.bdb_keep.specs.Tables.{Tables, bytes_cmp}
 use Rattle.bdb_plan.specs.Running.{plus_tuples}
 use Rattle.bdb_tables.specs.Codec.{HasRow}
 use Rattle.bdb_tables.specs.InUse.{tuple_codec}
+use Rattle.bdb_exec.specs.Indexes.{RecallsIndexes}
 use Rattle.bdb_exec.specs.declared.memo.KeyPool.{KeyPool}
 use Rattle.bdb_exec.specs.declared.memo.Memo.{Memo}
 use Rattle.bdb_exec.specs.Seen.{sight_of, signed_under}
@@ -51,4 +52,4 @@ RecallsKeys t m = (place : ℕ × ℕ) → IfSome (get pair_cmp m.last_pools pla
 
 -- all that is remembered is what the tables have
 abbrev pub Recalls : Tables → Memo → Type 0
-Recalls t m = RecallsUsers t m × RecallsTuples t m × RecallsPools t m × RecallsEdges t m × RecallsKeys t m × RecallsLengths t m
+Recalls t m = RecallsUsers t m × RecallsTuples t m × RecallsPools t m × RecallsEdges t m × RecallsKeys t m × RecallsLengths t m × RecallsIndexes t m.indexes

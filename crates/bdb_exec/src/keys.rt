@@ -43,8 +43,8 @@ pub fn value_behind<'a>(
     None
 }
 
-// The value that a test asks for of an item's column, where it is known.
-fn value_of_test<'a>(
+/// The value that a test asks for of an item's column, where it is known.
+pub fn value_of_test<'a>(
     slots: &'a [Option<Shared>],
     item: u32,
     col: u32,

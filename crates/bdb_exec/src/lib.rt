@@ -4,6 +4,7 @@
 mod deciding;
 mod errors;
 mod executing;
+mod index;
 mod keys;
 pub mod laws;
 mod looking;

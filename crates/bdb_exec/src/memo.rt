@@ -6,6 +6,7 @@ ghost use Rattle.std.specs.BTreeMap.{get, Updates};
 ghost use Rattle.bdb_keep.specs.Tables.{Tables};
 ghost use Rattle.bdb_exec.specs.Memos.{last_pool, pair_cmp, pool_of, Recalls};
 
+use crate::index::Index;
 use crate::shared::Shared;
 use bdb_base::{Exact, List, Tuple};
 use bdb_tables::Room;
@@ -29,6 +30,8 @@ pub struct Memo {
     pub tuples: BTreeMap<u32, Shared>,
     /// The tuples that a world has with plus, by world and relation.
     pub pools: BTreeMap<(u32, u32), List<Shared>>,
+    /// The same by the values of columns that tests ask for: by world and relation, and by the columns' bits.
+    pub indexes: BTreeMap<((u32, u32), u64), Index>,
     /// The tuples of the prefix of a key that was asked for last, by world and relation.
     pub last_pools: BTreeMap<(u32, u32), KeyPool>,
     /// Where edges lead, by world and user.
@@ -48,6 +51,7 @@ impl Memo {
             users: None,
             tuples: BTreeMap::new(alloc),
             pools: BTreeMap::new(alloc),
+            indexes: BTreeMap::new(alloc),
             last_pools: BTreeMap::new(alloc),
             edges: BTreeMap::new(alloc),
             lengths: BTreeMap::new(alloc),

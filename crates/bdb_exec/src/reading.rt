@@ -8,6 +8,7 @@ ghost use Rattle.bdb_exec.specs.Memos.{Recalls};
 ghost use Rattle.bdb_exec.specs.Readable.{CanBeRun};
 ghost use Rattle.bdb_exec.specs.Seen.{sight_of};
 
+use crate::index::by_columns;
 use crate::keys::asks_for_key;
 use crate::looking::{plus_tuples, plus_tuples_of_key, users};
 use crate::memo::Memo;
@@ -135,7 +136,8 @@ fn some_tuples<K: Keeper>(
     }
 }
 
-// The same where the tests ask for no key. The world's tuples are read where they weren't yet.
+// The same where the tests ask for no key. The world's tuples are read where they weren't yet, and from then on looked up by the
+// columns that tests ask for.
 fn of_relation<K: Keeper>(
     alloc: Global,
     keeper: &mut K,
@@ -160,9 +162,14 @@ fn of_relation<K: Keeper>(
     let place = (world, rel);
     match memo.pools.get(&place) {
         Some(all) => {
-            return match let_through(alloc, keeper, item, state, behind, all.as_slice()) {
+            let slots = state.slots();
+            let all = all.as_slice();
+            return match by_columns(alloc, &mut memo.indexes, place, slots, item, behind, all) {
                 Ok(pool) => Ok(pool),
-                Err(error) => Err(error),
+                Err(_) => {
+                    keeper.undo();
+                    Err(TabError::Memory)
+                }
             };
         }
         None => {}

@@ -42,8 +42,9 @@ use Rattle.bdb_session.proofs.WithinLemmas.{read_tells, stop_tells}
 use Rattle.bdb_tables.specs.Names.{Names}
 use Rattle.bdb_tables.specs.Rows.{Tuples}
 use Rattle.bdb_tables.specs.Stored.{StoredAs, slot_of}
+use Rattle.bdb_trans.specs.Orders.{IsPlanInOrder, plan_in}
 use Rattle.bdb_plan.proofs.RunLemmas.{meaning_are_choices}
-use Rattle.bdb_trans.proofs.PlanLemmas.{plans_fit_sights, plans_mean_answers}
+use Rattle.bdb_trans.proofs.PlanLemmas.{orders_mean_answers, plans_fit_sights, plans_mean_answers}
 use Rattle.bdb_update.proofs.CallLemmas.{gone_itself}
 use Rattle.bdb_update.proofs.GrammarLemmas.{over_in_grammar}
 use Rattle.bdb_val.proofs.Calls.{HasGone}
@@ -93,15 +94,18 @@ stored_plans_mean_choices t b q h fits safe =
     meaning_are_choices (sight_of t) (plan_of b.catalog.rels q)
     (plans_fit_sights b (sight_of t) (world_number h.stored.names) q h.valid (stored_shows t b h).shown fits safe)
 
--- the plan of a query means the answers over the base of each state
-pub plan_answers : (t : Tables) (k : Known) (s : State) (q : Query) → Agrees t k s → can_be_answered k.catalog q ≡ true
-    → meaning_of (sight_of t) (plan_of k.catalog.rels q) ≡ answers_of s.base q
-plan_answers t k s q a fits =
-    let c = s.base.catalog in
+-- in whichever order the items of a query are set, its plan means the answers over the base of each state
+pub plan_answers : (t : Tables) (k : Known) (s : State) (q : Query) (plan : PlanFields) → Agrees t k s → can_be_answered k.catalog q ≡ true → IsPlanInOrder k.catalog.rels q plan
+    → meaning_of (sight_of t) plan ≡ answers_of s.base q
+plan_answers t k s q plan a fits p =
+    let b = s.base in
+    let c = b.catalog in
+    let h = a.base in
     let here : can_be_answered c q ≡ true = ap (λ (x : Catalog). can_be_answered x q) (sym a.catalog) ∙ fits in
     let fine = (and_parts (query_fits c q) (is_safe c.rels q) here).0 in
-    ap (λ (x : Catalog). meaning_of (sight_of t) (plan_of x.rels q)) a.catalog
-    ∙ stored_plans_mean_answers t s.base q a.base fine (query_is_safe c q here)
+    ap (meaning_of (sight_of t)) p.is
+    ∙ ap (λ (x : Catalog). meaning_of (sight_of t) (plan_in x.rels q p.order)) a.catalog
+    ∙ orders_mean_answers b (sight_of t) (world_number h.stored.names) q p.order h.valid (stored_shows t b h).shown fine (query_is_safe c q here) p.can
 
 not_many : (n : ℕ) → n ≤ most_lines → too_many n ≡ None
 not_many n h = cond-false (nat_lt most_lines n) (Some refusal.Many) None (le-ltb most_lines n h)
@@ -128,21 +132,19 @@ stays_gone : {T : Type 0} (old new : Seen) (result : Result T ExecError) → IsE
 stays_gone old new result run h = record { goes = record { faults = run.counts.faults; running = h.running; last = h.last; commits = h.commits }; counts = run.counts }
 
 pub answers_tell : (k : Known) (q : Query) (plan : PlanFields) (rows : List (List Value)) (old mid new : Seen) (result : Result Reply StopError)
-    → AgreesOnSome old.kept k → can_be_answered k.catalog q ≡ true → plan ≡ plan_of k.catalog.rels q → rows ≡ meaning_of (sight_of old.kept) plan → length rows ≤ most_lines
+    → AgreesOnSome old.kept k → can_be_answered k.catalog q ≡ true → IsPlanInOrder k.catalog.rels q plan → rows ≡ meaning_of (sight_of old.kept) plan → length rows ≤ most_lines
     → IsExecuted old mid (Ok rows) → ((s : State) → IsSaid k.catalog (Done (rows_reply rows) (length rows) s) mid new result) → TellsWithin (λ s. bound_outcome s (Select q)) k k old new result
 answers_tell k q plan rows old mid new result some fits of_query means few run said =
-    let found = means ∙ ap (λ (p : PlanFields). meaning_of (sight_of old.kept) p) of_query in
     read_tells (λ s. bound_outcome s (Select q)) (λ s. Done (rows_reply rows) (length rows) s) k old mid new result some (stays_gone old mid (Ok rows) run run.ok) run.ok.kept
-    (λ s a. rows_outcome s q rows (found ∙ plan_answers old.kept k s q a fits) few) (λ s. refl) said
+    (λ s a. rows_outcome s q rows (means ∙ plan_answers old.kept k s q plan a fits of_query) few) (λ s. refl) said
 
 pub many_tell : {T : Type 0} (k : Known) (q : Query) (plan : PlanFields) (old mid new : Seen) (result : Result Reply StopError)
-    → AgreesOnSome old.kept k → can_be_answered k.catalog q ≡ true → plan ≡ plan_of k.catalog.rels q → most_lines < length (meaning_of (sight_of old.kept) plan)
+    → AgreesOnSome old.kept k → can_be_answered k.catalog q ≡ true → IsPlanInOrder k.catalog.rels q plan → most_lines < length (meaning_of (sight_of old.kept) plan)
     → IsExecuted {T = T} old mid (Err exec.TooMany) → IsSaid k.catalog (Refused refusal.Many) mid new result → TellsWithin (λ s. bound_outcome s (Select q)) k k old new result
 many_tell {T} k q plan old mid new result some fits of_query many run said =
     let stays = run.many refl in
-    let more = subst (λ (p : PlanFields). most_lines < length (meaning_of (sight_of old.kept) p)) of_query many in
     read_tells (λ s. bound_outcome s (Select q)) (λ s. Refused refusal.Many) k old mid new result some (stays_gone {T = T} old mid (Err exec.TooMany) run stays) stays.kept
-    (λ s a. many_outcome s q (subst (λ (r : List (List Value)). most_lines < length r) (plan_answers old.kept k s q a fits) more)) (λ s. refl) (λ s. said)
+    (λ s a. many_outcome s q (subst (λ (r : List (List Value)). most_lines < length r) (plan_answers old.kept k s q plan a fits of_query) many)) (λ s. refl) (λ s. said)
 
 pub fault_tells : {T : Type 0} (outcome : State → Outcome) (k : Known) (old mid : Seen) → IsExecuted {T = T} old mid (Err exec.Fault) → TellsWithin outcome k k old mid (Err Fault)
 fault_tells {T} outcome k old mid run =

@@ -44,7 +44,6 @@ use Rattle.bdb_keep.specs.Seen.{Seen}
 use Rattle.bdb_keep.specs.Tables.{Tables, bytes_cmp}
 use Rattle.bdb_key.specs.Grammar.{IsNum}
 use Rattle.bdb_paths.proofs.SuffixLemmas.{deepest_is_member, deepest_of_member}
-use Rattle.bdb_plan.specs.PlanOf.{plan_of}
 use Rattle.bdb_plan.specs.Fitness.{PlanFields}
 use Rattle.bdb_plan.specs.Running.{reads_from, start_of}
 use Rattle.bdb_plan.specs.Sight.{has_signed}
@@ -53,7 +52,8 @@ use Rattle.bdb_tables.specs.InUse.{ValKey, val_codec}
 use Rattle.bdb_tables.specs.Marks.{Mark}
 use Rattle.bdb_tables.specs.Names.{number_of}
 use Rattle.bdb_trans.specs.Bounds.{AreSmall, product_of}
-use Rattle.bdb_trans.proofs.ReadLemmas.{plan_reads}
+use Rattle.bdb_trans.specs.Orders.{IsPlanInOrder, plan_in}
+use Rattle.bdb_trans.proofs.ReadLemmas.{orders_read, plan_reads}
 use Rattle.bdb_session.specs.Known.{Known, Agrees}
 use Rattle.bdb_session.specs.Laws.{StoredPlansReadFew}
 use Rattle.bdb_session.specs.Outcome.{State}
@@ -224,19 +224,22 @@ stored_plans_read_few t b q rows h fits few =
     let places = shown.places in
     plan_reads b (sight_of t) (world_number h.stored.names) q (length b.catalog.users) rows h.valid shown fits (omega arith) (few_are_small t b h q rows few)
 
--- the plan of a query reads no more than the product over the base of each state
-pub plan_reads_few : (t : Tables) (k : Known) (s : State) (q : Query) (rows : ℕ → ℕ) → Agrees t k s → query_fits k.catalog q ≡ true → HasFewRows s.base q rows
-    → reads_from (sight_of t) (plan_of k.catalog.rels q).steps (start_of (plan_of k.catalog.rels q).items) ≤ product_of (length s.base.catalog.users) rows 0 q.items
-plan_reads_few t k s q rows a fits few =
+-- in whichever order the items of a query are set, its plan reads no more than the product over the base of each state
+pub plan_reads_few : (t : Tables) (k : Known) (s : State) (q : Query) (plan : PlanFields) (rows : ℕ → ℕ) → Agrees t k s → query_fits k.catalog q ≡ true → IsPlanInOrder k.catalog.rels q plan → HasFewRows s.base q rows
+    → reads_from (sight_of t) plan.steps (start_of plan.items) ≤ product_of (length s.base.catalog.users) rows 0 q.items
+plan_reads_few t k s q plan rows a fits p few =
     let b = s.base in
+    let h = a.base in
     let here : query_fits b.catalog q ≡ true = ap (λ (c : Catalog). query_fits c q) (sym a.catalog) ∙ fits in
-    let most = stored_plans_read_few t b q rows a.base here few in
-    subst (λ (c : Catalog). reads_from (sight_of t) (plan_of c.rels q).steps (start_of (plan_of c.rels q).items) ≤ product_of (length b.catalog.users) rows 0 q.items) (sym a.catalog) most
+    let shown = (stored_shows t b h).shown in
+    let places = shown.places in
+    let most = orders_read b (sight_of t) (world_number h.stored.names) q p.order (length b.catalog.users) rows h.valid shown here p.can (omega arith) (few_are_small t b h q rows few) in
+    let is : plan ≡ plan_in b.catalog.rels q p.order = p.is ∙ ap (λ (c : Catalog). plan_in c.rels q p.order) a.catalog in
+    subst (λ (x : PlanFields). reads_from (sight_of t) x.steps (start_of x.items) ≤ product_of (length b.catalog.users) rows 0 q.items) (sym is) most
 
-pub answers_read : {X : Type 0} (k : Known) (q : Query) (plan : PlanFields) (old mid new : Seen) (result : Result X StopError) → can_be_answered k.catalog q ≡ true → plan ≡ plan_of k.catalog.rels q
+pub answers_read : {X : Type 0} (k : Known) (q : Query) (plan : PlanFields) (old mid new : Seen) (result : Result X StopError) → can_be_answered k.catalog q ≡ true → IsPlanInOrder k.catalog.rels q plan
     → mid.reads ≤ old.reads + reads_from (sight_of old.kept) plan.steps (start_of plan.items) → new.reads ≡ mid.reads → ReadsAsBounded q k old new result
 answers_read k q plan old mid new result fits of_query most same s rows a few =
     let fine = (and_parts (query_fits k.catalog q) (is_safe k.catalog.rels q) fits).0 in
-    let least = plan_reads_few old.kept k s q rows a fine few in
-    let here = ap (λ (p : PlanFields). reads_from (sight_of old.kept) p.steps (start_of p.items)) of_query in
+    let least = plan_reads_few old.kept k s q plan rows a fine of_query few in
     always_ok result (omega arith)

@@ -11,6 +11,7 @@ ghost use Rattle.bdb_session.specs.Outcome.{State, Done};
 ghost use Rattle.bdb_session.specs.QueryReads.{ReadsAsBounded};
 ghost use Rattle.bdb_session.specs.Telling.{ReadsWithin, WritesNothing};
 ghost use Rattle.bdb_session.specs.Within.{IsSaid, TellsWithin};
+ghost use Rattle.bdb_trans.specs.Orders.{IsPlanInOrder};
 
 use crate::error::StopError;
 use crate::reply::Reply;
@@ -21,7 +22,7 @@ use bdb_exec::{ExecError, Rows, run_plan};
 use bdb_keep::Keeper;
 use bdb_plan::{Plan, print_plan};
 use bdb_render::{Refusal, count_reply, rows_reply};
-use bdb_trans::translate;
+use bdb_trans::{translate, translate_to_run};
 use std::alloc::AllocError;
 
 impl Session {
@@ -41,7 +42,7 @@ impl Session {
             result }
         ensures writes { WritesNothing (K.seen keeper.old) (K.seen keeper.new) result }
     {
-        let plan = match self.plan_of(query) {
+        let plan = match self.plan_to_run(query) {
             Ok(plan) => plan,
             Err(_) => {
                 keeper.undo();
@@ -99,6 +100,16 @@ impl Session {
         let mut text = print_plan(self.alloc, &self.catalog, query, &plan)?;
         text.extend_from_slice(count.as_slice())?;
         Ok(List::from_vec(text))
+    }
+
+    /// A plan of a query that is quick to run, in whichever order the query has its items.
+    fn plan_to_run(&self, query: &Query) -> Result<Plan, AllocError>
+        requires catalog { IsCatalog self.now.catalog }
+        requires fits { can_be_answered self.now.catalog query.now ≡ true }
+        ensures { IfOk result (λ plan. IsPlanInOrder self.now.catalog.rels query.now plan) }
+    {
+        let plan = translate_to_run(self.alloc, &self.catalog, query)?;
+        Ok(plan)
     }
 
     /// The plan of a query.

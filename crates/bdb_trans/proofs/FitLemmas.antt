@@ -32,8 +32,9 @@ use Rattle.bdb_plan.specs.declared.step.Step.TheVariants as step
 use Rattle.bdb_plan.specs.Fitness.{SetSoFar, is_among, has_bound, was_bound, is_known, is_set, operand_is_set, who_is_set, is_walked, is_new, comes_next, is_whole, placed_if, with_user, with_walk, with_tuple, bound_count, with_all_bound, placed_after, placed_at_end, takes_set, fits_from, at_first}
 use Rattle.bdb_plan.specs.PlanOf.{differ_from, walk_from, walk_of, bind_of, binds_from, operand_set, all_set, due, item_steps, steps_from, places, is_users, is_plus, is_minus_item, order_of}
 use Rattle.bdb_plan.specs.Sources.{source_of}
+use Rattle.bdb_trans.specs.Orders.{who_among, Needs, OrderFits, IsOrder}
 use Rattle.bdb_trans.proofs.HoldLemmas.{there_in_order, both_there, set_after, comes_set}
-use Rattle.bdb_trans.proofs.PlaceLemmas.{from_zero}
+use Rattle.bdb_trans.proofs.PlaceLemmas.{from_zero, in_order}
 use Rattle.bdb_trans.proofs.SourceLemmas.{move_on, here_at, joined_keeps, conds_keep_kinds, bound_has_source, IsSource, literal, column, source_is}
 
 -- ---- steps, one after the other
@@ -213,11 +214,6 @@ column_set rels q set o walk r a h =
     two (Some (Users alias)) (suc zero) u h = refl
     two (Some (Users alias)) (suc (suc col)) u h = absurd (false≢true h)
 
--- a user of a path is fixed, or among the items that are set
-abbrev pub who_among : List ℕ → Who → Bool
-who_among set (User i) = true
-who_among set (Of k) = is_among set k
-
 -- a user of a path is fixed, or that of a `Users` item
 abbrev names_user : Query → Who → Bool
 names_user q (User i) = true
@@ -235,12 +231,6 @@ path_set rels q set o walk (who ∷ whos) h g =
     one : (who : Who) → who_among set who ≡ true → names_user q who ≡ true → who_is_set (placed rels q set o walk) who ≡ true
     one (User i) h g = refl
     one (Of k) h g = among_chosen q set k h g
-
--- what an item needs: the users of its path, and for a minus item all given items
-abbrev pub Needs : Query → List ℕ → Item → Type 0
-Needs q set (Users alias) = Unit {0}
-Needs q set (Rel alias rel Plus path) = list_all (who_among set) path ≡ true
-Needs q set (Rel alias rel Minus path) = (list_all (who_among set) path ≡ true) × ((k : ℕ) → is_given (slice_get q.items k) ≡ true → is_among set k ≡ true)
 
 new_one : (n at : ℕ) (rels : List RelDef) (q : Query) (set : List ℕ) (walk : Option ℕ) → at < n → is_among set at ≡ false → is_new n (placed rels q set None walk) at ≡ true
 new_one n at rels q set walk h g = and_from (nat_lt at n) (not (is_among set at) && true) (lt-ltb at n h) (ap (λ b. not b && true) g)
@@ -431,11 +421,6 @@ item_leads n w rels q fit set walk at (Rel alias rel Minus path) within apart e 
     ]
 
 -- ---- the order of items
-
--- each item comes once, with what it needs
-abbrev pub OrderFits : Query → List ℕ → List ℕ → Type 0
-OrderFits q set [] = Unit {0}
-OrderFits q set (at ∷ order) = ((item : Item) × (slice_get q.items at ≡ Some item) × (is_among set at ≡ false) × Needs q set item) × OrderFits q (at ∷ set) order
 
 order_leads : (w : ℕ → ℕ → Bool) (rels : List RelDef) (q : Query) → IsFit rels w q → (set order : List ℕ) (walk : Option ℕ) → OrderFits q set order
     → LeadsOn (length q.items) w rels q set walk (steps_from rels q set order) (set_after set order)
@@ -646,19 +631,26 @@ query_is_fit w catalog q whole items conds safe = record {
 
 pub plan_is_fit : (w : ℕ → ℕ → Bool) (catalog : Catalog) (q : Query)
     → ((rel : ℕ) → is_some (slice_get catalog.rels rel) ≡ true → w rel (length (columns_at catalog.rels rel)) ≡ true) → query_fits catalog q ≡ true → IsSafe catalog.rels q
-    → fits_from (length q.items) w q.take (Some at_first) (steps_from catalog.rels q [] (order_of q.items)) ≡ true
-plan_is_fit w catalog q whole fits safe =
+    → (order : List ℕ) → IsOrder q order → fits_from (length q.items) w q.take (Some at_first) (steps_from catalog.rels q [] order) ≡ true
+plan_is_fit w catalog q whole fits safe order is =
     let rels = catalog.rels in
     let few = and_parts (nat_lt (length q.items) (2 ^ 32)) (list_all (λ def. nat_lt (length def.cols) (2 ^ 32)) rels && (list_all (item_fits catalog q.items) q.items && (list_all (λ r. is_some (column_kind rels q.items r)) q.take && list_all (joins_one_kind rels q.items) q.conds))) fits in
     let columns = and_parts (list_all (λ def. nat_lt (length def.cols) (2 ^ 32)) rels) (list_all (item_fits catalog q.items) q.items && (list_all (λ r. is_some (column_kind rels q.items r)) q.take && list_all (joins_one_kind rels q.items) q.conds)) few.1 in
     let items = and_parts (list_all (item_fits catalog q.items) q.items) (list_all (λ r. is_some (column_kind rels q.items r)) q.take && list_all (joins_one_kind rels q.items) q.conds) columns.1 in
     let rest = and_parts (list_all (λ r. is_some (column_kind rels q.items r)) q.take) (list_all (joins_one_kind rels q.items) q.conds) items.1 in
     let fit = query_is_fit w catalog q whole items.0 rest.1 safe in
-    let order = order_of q.items in
     let end = set_after [] order in
-    let leads = order_leads w rels q fit [] order None (order_fits catalog q items.0) in
+    let leads = order_leads w rels q fit [] order None is.fits in
     ap (takes_set q.take) leads.1
-    ∙ list_all_weaker (λ r. is_some (column_kind rels q.items r)) (is_set (placed rels q end None leads.0)) (λ r e. column_set rels q end None leads.0 r (comes_set [] order r.item (there_in_order rels q.items r e)) e) q.take rest.0
+    ∙ list_all_weaker (λ r. is_some (column_kind rels q.items r)) (is_set (placed rels q end None leads.0)) (λ r e. column_set rels q end None leads.0 r (comes_set [] order r.item (there_in_order rels q.items order is.each r e)) e) q.take rest.0
+
+-- the order in which the plan's text sets the items fits
+pub written_order : (catalog : Catalog) (q : Query) → query_fits catalog q ≡ true → IsOrder q (order_of q.items)
+written_order catalog q fits =
+    let few = and_parts (nat_lt (length q.items) (2 ^ 32)) _ fits in
+    let columns = and_parts (list_all (λ def. nat_lt (length def.cols) (2 ^ 32)) catalog.rels) _ few.1 in
+    let items = and_parts (list_all (item_fits catalog q.items) q.items) _ columns.1 in
+    record { fits = order_fits catalog q items.0; each = in_order q.items }
 
 -- ---- relations of a valid catalog
 

@@ -3,7 +3,7 @@ use Rattle.std.proofs.Common.{◌≡◌, ◌∙◌, ℕ, suc, ◌+◌, ◌-◌, 
 use Prim.Native.Nat.{zero}
 use Rattle.std.specs.List.{list_all, slice_get}
 use Rattle.std.specs.Option.{option_map, option_and_then, is_some}
-use Rattle.std.proofs.lemmas.Bool.{false≢true, cases_Bool, cond-true, cond-false, or_cases, or_left, and_parts, and_from}
+use Rattle.std.proofs.lemmas.Bool.{false≢true, cases_Bool, cond-true, cond-false, or_cases, or_left, and_parts, and_from, eqb-true}
 use Rattle.bdb_base.specs.declared.kinds.ColDef.{ColDef}
 use Rattle.bdb_base.specs.declared.kinds.Cond.{Cond}
 use Rattle.bdb_base.specs.declared.kinds.Item.{Item}
@@ -15,6 +15,7 @@ use Rattle.bdb_base.specs.declared.kinds.Operand.TheVariants.{Col, Lit}
 use Rattle.bdb_base.specs.declared.kinds.Query.{Query}
 use Rattle.bdb_base.specs.declared.kinds.Ref.{Ref}
 use Rattle.bdb_base.specs.declared.kinds.RelDef.{RelDef}
+use Rattle.bdb_base.specs.declared.kinds.Sign.{Sign}
 use Rattle.bdb_base.specs.declared.kinds.Sign.TheVariants.{Plus, Minus}
 use Rattle.bdb_base.specs.declared.kinds.Value.{Value}
 use Rattle.bdb_base.specs.declared.kinds.Value.TheVariants.{Int, Text}
@@ -35,12 +36,13 @@ use Rattle.bdb_queries.proofs.UserLemmas.{found_name}
 use Rattle.bdb_plan.specs.declared.step.Step.{Step}
 use Rattle.bdb_plan.specs.Fitness.{is_among}
 use Rattle.bdb_plan.specs.Holding.{world_if, world_at_end, steps_hold}
-use Rattle.bdb_plan.specs.PlanOf.{places, is_users, is_plus, is_minus_item, operand_set, all_set, due, item_steps, steps_from, order_of}
+use Rattle.bdb_plan.specs.PlanOf.{places, operand_set, all_set, due, item_steps, steps_from}
 use Rattle.bdb_plan.specs.Shown.{Shows}
 use Rattle.bdb_plan.specs.Sight.{Sight}
 use Rattle.bdb_plan.specs.Sources.{source_of}
+use Rattle.bdb_trans.specs.Orders.{who_among, Needs, OrderFits, IsOrder}
 use Rattle.bdb_trans.proofs.ItemLemmas.{Means, KnownPath, EqualsSource, EqualSources, SettingSays, DenyingSays, item_means, Each, OrderSays, order_means}
-use Rattle.bdb_trans.proofs.PlaceLemmas.{each_of_all, each_at, each_place, from_zero, place_found, in_order}
+use Rattle.bdb_trans.proofs.PlaceLemmas.{each_of_all, each_at, from_zero}
 use Rattle.bdb_trans.proofs.SourceLemmas.{move_on, here_at, one_kind_is, joined_keeps, conds_keep_kinds, bound_has_source, IsSource, literal, column, source_is, source_known, source_holds}
 use Rattle.bdb_trans.proofs.StepLemmas.{end_append}
 
@@ -49,11 +51,6 @@ use Rattle.bdb_trans.proofs.StepLemmas.{end_append}
 if_some : (t : Bool) (n m : ℕ) → world_if t n ≡ Some m → t ≡ true
 if_some true n m e = refl
 if_some false n m e = cc
-
-pub means_holds : {F : Type 0} (sight : Sight) (zs : List (Option Tuple)) (n : ℕ) (xs : List Step) → Means sight zs n xs F → is_some (world_at_end sight zs n xs) ≡ true → F
-means_holds sight zs n xs f h =
-    let m = some_of (world_at_end sight zs n xs) h in
-    f.sound (if_some f.test f.end m.0 (sym f.is ∙ m.1))
 
 pub holds_means : {F : Type 0} (sight : Sight) (zs : List (Option Tuple)) (n : ℕ) (xs : List Step) → Means sight zs n xs F → F → is_some (world_at_end sight zs n xs) ≡ true
 holds_means sight zs n xs f h = ap is_some (f.is ∙ ap (λ t. world_if t f.end) (f.whole h))
@@ -69,41 +66,18 @@ split_end sight zs n xs ys h = by (world_at_end sight zs n xs) (ap is_some (sym 
 
 -- ---- users and paths
 
+-- each item's place is among places
+abbrev pub HasEach : List Item → List ℕ → Type 0
+HasEach items order = (k : ℕ) (item : Item) → slice_get items k ≡ Some item → is_among order k ≡ true
+
 -- for each `Users` item a user is chosen
 abbrev pub AreUsers : Contents → List Item → List (Option Tuple) → Type 0
 AreUsers b items zs = (i : ℕ) → is_users_item (slice_get items i) ≡ true → SlotHolds b zs (Users []) (slot_at zs i)
-
-abbrev IsUsersAt : List Item → ℕ → Type 0
-IsUsersAt items at = (alias : List ℕ) × (slice_get items at ≡ Some (Users alias))
-
-users_first : (b : Contents) (sight : Sight) (number : List ℕ → ℕ) → Shows b sight number → IsValid b.catalog b.stmts → (q : Query) (zs : List (Option Tuple)) (n : ℕ) (set order rest : List ℕ)
-    → Each (IsUsersAt q.items) order → is_some (world_at_end sight zs n (steps_from b.catalog.rels q set (order ++ rest))) ≡ true → Each (λ at. SlotHolds b zs (Users []) (slot_at zs at)) order
-users_first b sight number s valid q zs n set [] rest e h = tt
-users_first b sight number s valid q zs n set (at ∷ order) rest e h =
-    let item = e.0 in
-    let parts = split_end sight zs n (item_steps b.catalog.rels q set at (slice_get q.items at)) (steps_from b.catalog.rels q (at ∷ set) (order ++ rest)) h in
-    let known : KnownPath b zs (slice_get q.items at) = subst (KnownPath b zs) (sym item.1) tt in
-    let f = item_means b sight number s valid.stmts q zs n set at (slice_get q.items at) known in
-    let says = f.sound (if_some f.test f.end parts.0 (sym f.is ∙ parts.1)) in
-    (subst (SettingSays b q zs at) item.1 says.0, users_first b sight number s valid q zs parts.0 (at ∷ set) order rest e.1 parts.2)
 
 users_at : (o : Option Item) → is_users_item o ≡ true → (alias : List ℕ) × (o ≡ Some (Users alias))
 users_at None h = absurd (false≢true h)
 users_at (Some (Users alias)) h = (alias, refl)
 users_at (Some (Rel alias rel sign path)) h = absurd (false≢true h)
-
-is_users_at : (items : List Item) (i : ℕ) (item : Item) → slice_get items i ≡ Some item → is_users item ≡ true → IsUsersAt items i
-is_users_at items i (Users alias) e h = (alias, e)
-is_users_at items i (Rel alias rel sign path) e h = absurd (false≢true h)
-
-pub plan_has_users : (b : Contents) (sight : Sight) (number : List ℕ → ℕ) → Shows b sight number → IsValid b.catalog b.stmts → (q : Query) (zs : List (Option Tuple))
-    → steps_hold sight zs (steps_from b.catalog.rels q [] (order_of q.items)) ≡ true → AreUsers b q.items zs
-plan_has_users b sight number s valid q zs h i u =
-    let first = places is_users 0 q.items in
-    let rest = places is_plus 0 q.items ++ places is_minus_item 0 q.items in
-    let each = users_first b sight number s valid q zs 0 [] first rest (each_place (IsUsersAt q.items) is_users q.items q.items 0 (from_zero q.items) (is_users_at q.items)) h in
-    let at = users_at (slice_get q.items i) u in
-    each_at (λ at. SlotHolds b zs (Users []) (slot_at zs at)) first i each (place_found is_users q.items i (Users at.0) at.1 refl)
 
 who_known : (b : Contents) (items : List Item) (zs : List (Option Tuple)) → AreUsers b items zs → (who : Who) → who_fits b.catalog.users items who ≡ true
     → (i : ℕ) × (uid_of zs who ≡ Some i) × (is_user b.catalog.users i ≡ true)
@@ -133,6 +107,61 @@ paths_known b items zs u f at = by (slice_get items at) (λ item e. list_all_get
         let m = and_parts (list_all (who_fits b.catalog.users items) path) (fixed_differ path) k.1 in
         let p = path_known b items zs u path m.0 in
         record { users = p.0; is = p.1; there = p.2; apart = m.1 }
+
+-- of the `Users` items that are set a user is chosen for each
+abbrev pub AreUsersOf : Contents → List Item → List (Option Tuple) → List ℕ → Type 0
+AreUsersOf b items zs set = (i : ℕ) → is_among set i ≡ true → is_users_item (slice_get items i) ≡ true → SlotHolds b zs (Users []) (slot_at zs i)
+
+-- the path of an item whose users are set is known
+path_of_set : (b : Contents) (items : List Item) (zs : List (Option Tuple)) (set : List ℕ) → AreUsersOf b items zs set → (path : List Who) → list_all (who_among set) path ≡ true
+    → list_all (who_fits b.catalog.users items) path ≡ true → (w : List ℕ) × (path_of zs path ≡ Some w) × (list_all (is_user b.catalog.users) w ≡ true)
+path_of_set b items zs set u [] a f = ([], refl, refl)
+path_of_set b items zs set u (who ∷ whos) a f =
+    let n = and_parts (who_among set who) (list_all (who_among set) whos) a in
+    let k = and_parts (who_fits b.catalog.users items who) (list_all (who_fits b.catalog.users items) whos) f in
+    let first = one who n.0 k.0 in
+    let rest = path_of_set b items zs set u whos n.1 k.1 in (
+      first.0 ∷ rest.0,
+      ap (option_and_then (λ uid. option_map (λ w. uid ∷ w) (path_of zs whos))) first.1 ∙ ap (option_map (λ w. first.0 ∷ w)) rest.1,
+      and_from (is_user b.catalog.users first.0) (list_all (is_user b.catalog.users) rest.0) first.2 rest.2,
+    )
+  where
+    one : (who : Who) → who_among set who ≡ true → who_fits b.catalog.users items who ≡ true → (i : ℕ) × (uid_of zs who ≡ Some i) × (is_user b.catalog.users i ≡ true)
+    one (User i) n k = (i, refl, k)
+    one (Of item) n k = let (uid, name, user, named, is) = u item n k in (uid, ap (option_map (λ t. t.rel)) is, user)
+
+known_of_set : (b : Contents) (q : Query) (zs : List (Option Tuple)) (set : List ℕ) → AreUsersOf b q.items zs set → (item : Item) → Needs q set item → item_fits b.catalog q.items item ≡ true → KnownPath b zs (Some item)
+known_of_set b q zs set u (Users alias) n f = tt
+known_of_set b q zs set u (Rel alias rel sign path) n f =
+    let k = and_parts (is_some (slice_get b.catalog.rels rel)) (list_all (who_fits b.catalog.users q.items) path && fixed_differ path) f in
+    let m = and_parts (list_all (who_fits b.catalog.users q.items) path) (fixed_differ path) k.1 in
+    let p = path_of_set b q.items zs set u path (needed sign n) m.0 in
+    record { users = p.0; is = p.1; there = p.2; apart = m.1 }
+  where
+    needed : (sign : Sign) → Needs q set (Rel alias rel sign path) → list_all (who_among set) path ≡ true
+    needed Plus n = n
+    needed Minus n = n.0
+
+-- steps that hold say what each item and each comparison says, in any order that fits
+steps_say : (b : Contents) (sight : Sight) (number : List ℕ → ℕ) → Shows b sight number → IsValid b.catalog b.stmts → (q : Query) → list_all (item_fits b.catalog q.items) q.items ≡ true → (zs : List (Option Tuple)) (n : ℕ) (set order : List ℕ)
+    → OrderFits q set order → AreUsersOf b q.items zs set → is_some (world_at_end sight zs n (steps_from b.catalog.rels q set order)) ≡ true → OrderSays b q zs set order
+steps_say b sight number s valid q fits zs n set [] o u h = tt
+steps_say b sight number s valid q fits zs n set (at ∷ order) o u h =
+    let (item, is, apart, needs) = o.0 in
+    let parts = split_end sight zs n (item_steps b.catalog.rels q set at (slice_get q.items at)) (steps_from b.catalog.rels q (at ∷ set) order) h in
+    let known : KnownPath b zs (slice_get q.items at) = subst (KnownPath b zs) (sym is) (known_of_set b q zs set u item needs (list_all_get (item_fits b.catalog q.items) q.items at item fits is)) in
+    let f = item_means b sight number s valid.stmts q zs n set at (slice_get q.items at) known in
+    let says = f.sound (if_some f.test f.end parts.0 (sym f.is ∙ parts.1)) in
+    (says, steps_say b sight number s valid q fits zs parts.0 (at ∷ set) order o.1 (more says.0) parts.2)
+  where
+    more : SettingSays b q zs at (slice_get q.items at) → AreUsersOf b q.items zs (at ∷ set)
+    more says i e user = elim (or_cases (nat_eq i at) (is_among set i) e) [
+      | inl k ↦
+          let same : i ≡ at = eqb-true i at k in
+          let there = users_at (slice_get q.items i) user in
+          subst (λ j. SlotHolds b zs (Users []) (slot_at zs j)) (sym same) (subst (SettingSays b q zs at) (ap (slice_get q.items) (sym same) ∙ there.1) says)
+      | inr k ↦ u i k user
+    ]
 
 -- ---- comparisons
 
@@ -171,12 +200,12 @@ due_holds b q zs set (at ∷ order) c f says before ends = elim (cases_Bool (all
 nothing_set : (c : Cond) → all_set [] c ≡ false
 nothing_set c = refl
 
-pub there_in_order : (rels : List RelDef) (items : List Item) (r : Ref) → is_some (column_kind rels items r) ≡ true → is_among (order_of items) r.item ≡ true
-there_in_order rels items r h = by (slice_get items r.item) refl h
+pub there_in_order : (rels : List RelDef) (items : List Item) (order : List ℕ) → HasEach items order → (r : Ref) → is_some (column_kind rels items r) ≡ true → is_among order r.item ≡ true
+there_in_order rels items order each r h = by (slice_get items r.item) refl h
   where
-    by : (o : Option Item) → slice_get items r.item ≡ o → is_some (option_and_then (λ item. slice_get (item_kinds rels item) r.col) o) ≡ true → is_among (order_of items) r.item ≡ true
+    by : (o : Option Item) → slice_get items r.item ≡ o → is_some (option_and_then (λ item. slice_get (item_kinds rels item) r.col) o) ≡ true → is_among order r.item ≡ true
     by None e h = absurd (false≢true h)
-    by (Some item) e h = in_order items r.item item e
+    by (Some item) e h = each r.item item e
 
 pub both_there : (rels : List RelDef) (items : List Item) (c : Cond) → joins_one_kind rels items c ≡ true → (is_some (column_kind rels items c.left) ≡ true) × (is_some (operand_kind rels items c.right) ≡ true)
 both_there rels items c h = by (column_kind rels items c.left) (operand_kind rels items c.right) h
@@ -187,19 +216,19 @@ both_there rels items c h = by (column_kind rels items c.left) (operand_kind rel
     by (Some a) (Some b) h = (refl, refl)
 
 -- in the end all columns of a comparison that fits are set
-pub set_in_end : (rels : List RelDef) (items : List Item) (c : Cond) → joins_one_kind rels items c ≡ true → all_set (set_after [] (order_of items)) c ≡ true
-set_in_end rels items c h =
-    let end = set_after [] (order_of items) in
+pub set_in_end : (rels : List RelDef) (items : List Item) (order : List ℕ) → HasEach items order → (c : Cond) → joins_one_kind rels items c ≡ true → all_set (set_after [] order) c ≡ true
+set_in_end rels items order each c h =
+    let end = set_after [] order in
     let there = both_there rels items c h in
-    and_from (is_among end c.left.item) (operand_set end c.right) (comes_set [] (order_of items) c.left.item (there_in_order rels items c.left there.0)) (right c.right there.1)
+    and_from (is_among end c.left.item) (operand_set end c.right) (comes_set [] order c.left.item (there_in_order rels items order each c.left there.0)) (right c.right there.1)
   where
-    right : (o : Operand) → is_some (operand_kind rels items o) ≡ true → operand_set (set_after [] (order_of items)) o ≡ true
-    right (Col r) h = comes_set [] (order_of items) r.item (there_in_order rels items r h)
+    right : (o : Operand) → is_some (operand_kind rels items o) ≡ true → operand_set (set_after [] order) o ≡ true
+    right (Col r) h = comes_set [] order r.item (there_in_order rels items order each r h)
     right (Lit v) h = refl
 
-conds_hold : (b : Contents) (q : Query) (zs : List (Option Tuple)) → list_all (joins_one_kind b.catalog.rels q.items) q.conds ≡ true → OrderSays b q zs [] (order_of q.items) → must_all_hold zs q.conds ≡ true
-conds_hold b q zs f says = list_all_from_gets (must_hold zs) q.conds (λ k c e.
-    due_holds b q zs [] (order_of q.items) c (found_at q.conds k c e) says (nothing_set c) (set_in_end b.catalog.rels q.items c (list_all_get (joins_one_kind b.catalog.rels q.items) q.conds k c f e)))
+conds_hold : (b : Contents) (q : Query) (order : List ℕ) → HasEach q.items order → (zs : List (Option Tuple)) → list_all (joins_one_kind b.catalog.rels q.items) q.conds ≡ true → OrderSays b q zs [] order → must_all_hold zs q.conds ≡ true
+conds_hold b q order each zs f says = list_all_from_gets (must_hold zs) q.conds (λ k c e.
+    due_holds b q zs [] order c (found_at q.conds k c e) says (nothing_set c) (set_in_end b.catalog.rels q.items order each c (list_all_get (joins_one_kind b.catalog.rels q.items) q.conds k c f e)))
 
 -- ---- kinds
 
@@ -331,22 +360,21 @@ conds_fit b q h =
     (and_parts (list_all (λ r. is_some (column_kind rels q.items r)) q.take) (list_all (joins_one_kind rels q.items) q.conds) items.1).1
 
 pub slots_from_steps : (b : Contents) (sight : Sight) (number : List ℕ → ℕ) → Shows b sight number → IsValid b.catalog b.stmts → (q : Query) → query_fits b.catalog q ≡ true → IsSafe b.catalog.rels q
-    → (zs : List (Option Tuple)) → length zs ≡ length q.items → steps_hold sight zs (steps_from b.catalog.rels q [] (order_of q.items)) ≡ true
+    → (order : List ℕ) → IsOrder q order → (zs : List (Option Tuple)) → length zs ≡ length q.items → steps_hold sight zs (steps_from b.catalog.rels q [] order) ≡ true
     → SlotsHold b zs q.items zs × (must_all_hold zs q.conds ≡ true)
-slots_from_steps b sight number s valid q fits safe zs long h =
+slots_from_steps b sight number s valid q fits safe order is zs long h =
     let rels = b.catalog.rels in
-    let order = order_of q.items in
-    let users = plan_has_users b sight number s valid q zs h in
-    let paths = paths_known b q.items zs users (items_fit b q fits) in
-    let means = order_means b sight number s valid.stmts q zs 0 [] order (each_of_all (λ at. KnownPath b zs (slice_get q.items at)) order paths) in
-    let says = means_holds sight zs 0 (steps_from rels q [] order) means h in
+    let says = steps_say b sight number s valid q (items_fit b q fits) zs 0 [] order is.fits none_yet h in
     let facts = facts_of b q zs [] order says in
-    let conds = conds_hold b q zs (conds_fit b q fits) says in
+    let conds = conds_hold b q order is.each zs (conds_fit b q fits) says in
     let at : (i : ℕ) (item : Item) → slice_get q.items i ≡ Some item → SettingSays b q zs i (Some item) × DenyingSays b zs i (Some item) =
-    λ i item e. subst (λ o. SettingSays b q zs i o × DenyingSays b zs i o) e (each_at (λ at. SettingSays b q zs at (slice_get q.items at) × DenyingSays b zs at (slice_get q.items at)) order i facts (in_order q.items i item e)) in
+    λ i item e. subst (λ o. SettingSays b q zs i o × DenyingSays b zs i o) e (each_at (λ at. SettingSays b q zs at (slice_get q.items at) × DenyingSays b zs at (slice_get q.items at)) order i facts (is.each i item e)) in
     let given = given_hold at in
     (slots_hold b zs q.items q.items 0 zs (from_zero q.items) (slot_from_zero zs) long (all_hold at given conds), conds)
   where
+    none_yet : AreUsersOf b q.items zs []
+    none_yet i e u = absurd (false≢true e)
+
     slot_from_zero : (zs : List (Option Tuple)) (k : ℕ) → slot_at zs (0 + k) ≡ slot_at zs k
     slot_from_zero zs k = ap (option_and_then (λ s. s)) (from_zero zs k)
 
@@ -416,10 +444,9 @@ order_says b q zs c h set [] = tt
 order_says b q zs c h set (at ∷ order) =
     (((h at).0, (list_all-filter (must_hold zs) (λ d. all_set (at ∷ set) d && not (all_set set d)) q.conds c, (h at).1)), order_says b q zs c h (at ∷ set) order)
 
-pub steps_from_slots : (b : Contents) (sight : Sight) (number : List ℕ → ℕ) → Shows b sight number → IsValid b.catalog b.stmts → (q : Query) → query_fits b.catalog q ≡ true → (zs : List (Option Tuple))
-    → SlotsHold b zs q.items zs → must_all_hold zs q.conds ≡ true → (length zs ≡ length q.items) × (steps_hold sight zs (steps_from b.catalog.rels q [] (order_of q.items)) ≡ true)
-steps_from_slots b sight number s valid q fits zs h c =
-    let order = order_of q.items in
+pub steps_from_slots : (b : Contents) (sight : Sight) (number : List ℕ → ℕ) → Shows b sight number → IsValid b.catalog b.stmts → (q : Query) → query_fits b.catalog q ≡ true → (order : List ℕ) → (zs : List (Option Tuple))
+    → SlotsHold b zs q.items zs → must_all_hold zs q.conds ≡ true → (length zs ≡ length q.items) × (steps_hold sight zs (steps_from b.catalog.rels q [] order) ≡ true)
+steps_from_slots b sight number s valid q fits order zs h c =
     let hold = slot_holds_at b zs q.items zs h in
     let users : AreUsers b q.items zs = λ i u. let at = users_at (slice_get q.items i) u in hold i (Users at.0) at.1 in
     let paths = paths_known b q.items zs users (items_fit b q fits) in

@@ -1,6 +1,7 @@
 pub mod FitLemmas
 pub mod HoldLemmas
 pub mod ItemLemmas
+pub mod PassingLemmas
 pub mod PlaceLemmas
 pub mod PlanLemmas
 pub mod ReadLemmas

@@ -11,11 +11,6 @@ use Rattle.bdb_base.specs.declared.kinds.Sign.TheVariants.{Plus, Minus}
 use Rattle.bdb_plan.specs.Fitness.{is_among}
 use Rattle.bdb_plan.specs.PlanOf.{places, is_users, is_plus, is_minus_item, order_of}
 use Rattle.bdb_trans.proofs.ItemLemmas.{Each}
-use Rattle.bdb_trans.proofs.SourceLemmas.{move_on, here_at}
-
-pub each_append : (F : ℕ → Type 0) (xs ys : List ℕ) → Each F xs → Each F ys → Each F (xs ++ ys)
-each_append F [] ys h g = g
-each_append F (x ∷ xs) ys h g = (h.0, each_append F xs ys h.1 g)
 
 pub each_of_all : (F : ℕ → Type 0) (xs : List ℕ) → ((at : ℕ) → F at) → Each F xs
 each_of_all F [] h = tt
@@ -27,17 +22,6 @@ each_at F (x ∷ xs) at h e = elim (or_cases (nat_eq at x) (is_among xs at) e) [
   | inl k ↦ subst F (sym (eqb-true at x k)) h.0
   | inr k ↦ each_at F xs at h.1 k
 ]
-
--- what holds of each item that passes holds at its places
-pub each_place : (F : ℕ → Type 0) (p : Item → Bool) (all items : List Item) (at : ℕ) → ((k : ℕ) → slice_get all (at + k) ≡ slice_get items k)
-    → ((i : ℕ) (item : Item) → slice_get all i ≡ Some item → p item ≡ true → F i) → Each F (places p at items)
-each_place F p all [] at h g = tt
-each_place F p all (item ∷ items) at h g =
-    let rest = each_place F p all items (at + 1) (move_on all items at item h) g in
-    elim (cases_Bool (p item)) [
-      | inl k ↦ subst (Each F) (sym (cond-true (p item) (at ∷ places p (at + 1) items) (places p (at + 1) items) k)) (g at item (here_at all items at item h) k, rest)
-      | inr k ↦ subst (Each F) (sym (cond-false (p item) (at ∷ places p (at + 1) items) (places p (at + 1) items) k)) rest
-    ]
 
 pub from_zero : {X : Type 0} (xs : List X) (k : ℕ) → slice_get xs (0 + k) ≡ slice_get xs k
 from_zero xs k = ap (slice_get xs) (same k)

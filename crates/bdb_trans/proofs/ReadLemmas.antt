@@ -3,6 +3,7 @@ use Rattle.std.proofs.Common.{◌≡◌, ◌∙◌, ℕ, zero, suc, ◌+◌, ◌
 use Rattle.std.specs.List.{list_all, list_any, sum_by, slice_get, AllByRecursion}
 use Rattle.std.specs.Option.{option_map, option_and_then, is_some}
 use Rattle.std.proofs.lemmas.Bool.{false≢true, cases_Bool, or_cases, or_left, or_right, and_parts, and_from, eqb-true}
+use Rattle.std.proofs.lemmas.Bool.Decides.{Decides-eqb, nat_tests}
 use Rattle.std.proofs.lemmas.List.{append_assoc, length-replicate}
 use Rattle.std.proofs.lemmas.List.Sums.{sum_by-cons}
 use Rattle.std.proofs.lemmas.Nat.{mul-le}
@@ -33,7 +34,7 @@ use Rattle.bdb_queries.specs.Slots.{slot_at, known_operand, must_hold, uid_of, p
 use Rattle.bdb_queries.proofs.UserLemmas.{user_of_test}
 use Rattle.bdb_plan.specs.Fitness.{is_among}
 use Rattle.bdb_plan.specs.Holding.{differ, world_if, world_after, world_at_end}
-use Rattle.bdb_plan.specs.PlanOf.{differ_from, walk_from, walk_of, bind_of, binds_from, due, item_steps, steps_from, order_of, places, is_users, is_plus, is_minus_item, plan_steps}
+use Rattle.bdb_plan.specs.PlanOf.{differ_from, walk_from, walk_of, bind_of, binds_from, due, item_steps, steps_from, order_of, places, plan_steps}
 use Rattle.bdb_plan.specs.Running.{Reached, with_world, with_slot, with_value, plus_tuples, reached_if, after, own_reads, reads_from, start_of, denied}
 use Rattle.bdb_plan.specs.Shown.{Shows}
 use Rattle.bdb_plan.specs.Sight.{Sight}
@@ -41,9 +42,9 @@ use Rattle.bdb_plan.specs.Sources.{source_of}
 use Rattle.bdb_plan.specs.declared.step.Step.{Step}
 use Rattle.bdb_plan.specs.declared.step.Step.TheVariants as step
 use Rattle.bdb_plan.proofs.StandLemmas.{slot_set, slot_other}
-use Rattle.bdb_trans.specs.Bounds.{factor, product_of, AreSmall, PlanReadsAreBounded}
-use Rattle.bdb_trans.proofs.FitLemmas.{OrderFits, Needs, who_among, order_fits, path_fits}
-use Rattle.bdb_trans.proofs.PlaceLemmas.{from_zero}
+use Rattle.bdb_trans.specs.Bounds.{factor, product_of, AreSmall, OrdersReadFew, PlanReadsAreBounded}
+use Rattle.bdb_trans.specs.Orders.{who_among, Needs, OrderFits}
+use Rattle.bdb_trans.proofs.FitLemmas.{path_fits, written_order}
 use Rattle.bdb_trans.proofs.StepLemmas.{end_append}
 use Rattle.bdb_trans.proofs.WalkLemmas.{walk_comes}
 
@@ -176,19 +177,74 @@ minus_bound d r m C P le h one =
     let c : (d + 3 * m + 8) * P ≡ P + (d + 3 * m + 7) * P = grind arith in
     omega (arith, b, c, le, h)
 
--- the product of the factors of items, by their places
-abbrev product : ℕ → (ℕ → ℕ) → List Item → List ℕ → ℕ
-product users rows items [] = 1
-product users rows items (at ∷ order) = factor users rows at (slice_get items at) * product users rows items order
+-- the product of the factors of the items that are not set yet, from a place on
+left_of : ℕ → (ℕ → ℕ) → List ℕ → ℕ → List Item → ℕ
+left_of users rows set at [] = 1
+left_of users rows set at (item ∷ items) = cond (is_among set at) 1 (factor users rows at (Some item)) * left_of users rows set (at + 1) items
 
-product_some : (u : ℕ) (m : ℕ → ℕ) (items : List Item) (order : List ℕ) → 1 ≤ product u m items order
-product_some u m items [] = omega arith
-product_some u m items (at ∷ order) = by (slice_get items at) (product_some u m items order)
+factor_some : (u : ℕ) (m : ℕ → ℕ) (at : ℕ) (item : Item) → 1 ≤ factor u m at (Some item)
+factor_some u m at (Users alias) = omega arith
+factor_some u m at (Rel alias rel sign path) = omega arith
+
+left_some : (u : ℕ) (m : ℕ → ℕ) (set : List ℕ) (at : ℕ) (items : List Item) → 1 ≤ left_of u m set at items
+unfolding left_of
+left_some u m set at [] = omega arith
+left_some u m set at (item ∷ items) = by (is_among set at) (left_some u m set (at + 1) items)
   where
-    by : (o : Option Item) → 1 ≤ product u m items order → 1 ≤ factor u m at o * product u m items order
-    by None h = mul-le 1 1 1 (product u m items order) (omega arith) h
-    by (Some (Users alias)) h = mul-le 1 1 (2 * u + 8) (product u m items order) (omega arith) h
-    by (Some (Rel alias rel sign path)) h = mul-le 1 1 (length path + 3 * m at + 8) (product u m items order) (omega arith) h
+    by : (t : Bool) → 1 ≤ left_of u m set (at + 1) items → 1 ≤ cond t 1 (factor u m at (Some item)) * left_of u m set (at + 1) items
+    by true h = mul-le 1 1 1 (left_of u m set (at + 1) items) (omega arith) h
+    by false h = mul-le 1 1 (factor u m at (Some item)) (left_of u m set (at + 1) items) (factor_some u m at item) h
+
+-- once one more item is set that stands before all of these, what is left is the same
+left_before : (u : ℕ) (m : ℕ → ℕ) (set : List ℕ) (x at : ℕ) (items : List Item) → x < at → left_of u m (x ∷ set) at items ≡ left_of u m set at items
+unfolding left_of
+left_before u m set x at [] lt = refl
+left_before u m set x at (item ∷ items) lt =
+    ap (λ t. cond (t || is_among set at) 1 (factor u m at (Some item)) * left_of u m (x ∷ set) (at + 1) items) (apart x at lt)
+    ∙ ap (λ n. cond (is_among set at) 1 (factor u m at (Some item)) * n) (left_before u m set x (at + 1) items (omega arith))
+  where
+    apart : (x at : ℕ) → x < at → nat_eq at x ≡ false
+    apart x at lt = grind (arith, nat_tests)
+
+-- an item that is set leaves its factor
+left_one : (u : ℕ) (m : ℕ → ℕ) (set : List ℕ) (at k : ℕ) (items : List Item) (item : Item) → slice_get items k ≡ Some item → is_among set (at + k) ≡ false
+    → left_of u m set at items ≡ factor u m (at + k) (Some item) * left_of u m ((at + k) ∷ set) at items
+unfolding left_of
+left_one u m set at k [] item e h = cc
+left_one u m set at zero (x ∷ items) item e h =
+    let is : x ≡ item = cc in
+    let same : at + zero ≡ at = omega arith in
+    let before : left_of u m (at ∷ set) (at + 1) items ≡ left_of u m set (at + 1) items = left_before u m set at (at + 1) items (omega arith) in
+    let new : is_among set at ≡ false = ap (is_among set) (sym same) ∙ h in
+    subst (λ n. left_of u m set at (x ∷ items) ≡ factor u m n (Some item) * left_of u m (n ∷ set) at (x ∷ items)) (sym same)
+    (ap (λ t. cond t 1 (factor u m at (Some x)) * left_of u m set (at + 1) items) new
+    ∙ ap (λ i. factor u m at (Some i) * left_of u m set (at + 1) items) is
+    ∙ ap (λ n. factor u m at (Some item) * n) (sym before)
+    ∙ ap (λ n. factor u m at (Some item) * n) (once (left_of u m (at ∷ set) (at + 1) items))
+    ∙ ap (λ t. factor u m at (Some item) * (cond (t || is_among set at) 1 (factor u m at (Some x)) * left_of u m (at ∷ set) (at + 1) items)) (sym ((Decides-eqb at at).1 refl)))
+  where
+    once : (n : ℕ) → n ≡ 1 * n
+    once n = grind arith
+left_one u m set at (suc k) (x ∷ items) item e h =
+    let same : (at + 1) + k ≡ at + suc k = omega arith in
+    let rest = left_one u m set (at + 1) k items item e (ap (is_among set) same ∙ h) in
+    let here : left_of u m set (at + 1) items ≡ factor u m (at + suc k) (Some item) * left_of u m ((at + suc k) ∷ set) (at + 1) items =
+    subst (λ n. left_of u m set (at + 1) items ≡ factor u m n (Some item) * left_of u m (n ∷ set) (at + 1) items) same rest in
+    ap (λ n. cond (is_among set at) 1 (factor u m at (Some x)) * n) here
+    ∙ moved (cond (is_among set at) 1 (factor u m at (Some x))) (factor u m (at + suc k) (Some item)) (left_of u m ((at + suc k) ∷ set) (at + 1) items)
+    ∙ ap (λ t. factor u m (at + suc k) (Some item) * (cond (t || is_among set at) 1 (factor u m at (Some x)) * left_of u m ((at + suc k) ∷ set) (at + 1) items)) (sym (other at k))
+  where
+    moved : (a b c : ℕ) → a * (b * c) ≡ b * (a * c)
+    moved a b c = grind arith
+
+    other : (at k : ℕ) → nat_eq at (at + suc k) ≡ false
+    other at k = grind (arith, nat_tests)
+
+-- while none is set, all are left
+none_set : (u : ℕ) (m : ℕ → ℕ) (at : ℕ) (items : List Item) → left_of u m [] at items ≡ product_of u m at items
+unfolding left_of
+none_set u m at [] = refl
+none_set u m at (item ∷ items) = ap (λ n. factor u m at (Some item) * n) (none_set u m (at + 1) items)
 
 -- ---- what is chosen for users
 
@@ -434,92 +490,35 @@ module _ (b : Contents) (sight : Sight) (number : List ℕ → ℕ) (q : Query) 
     place_within (x ∷ items) zero item e = omega arith
     place_within (x ∷ items) (suc at) item e = let rest = place_within items at item e in omega arith
 
-    order_reads : (order set : List ℕ) → OrderFits q set order → Then set (steps_from b.catalog.rels q set order) (product u m q.items order)
+    order_reads : (order set : List ℕ) → OrderFits q set order → Then set (steps_from b.catalog.rels q set order) (left_of u m set 0 q.items)
     order_reads [] set f s g = omega arith
     order_reads (at ∷ order) set f s g =
         let item = f.0.0 in
         let is = f.0.1 in
-        let C = product u m q.items order in
-        let one = product_some u m q.items order in
+        let C = left_of u m (at ∷ set) 0 q.items in
+        let one = left_some u m (at ∷ set) 0 q.items in
         let rest = steps_from b.catalog.rels q (at ∷ set) order in
         let h : Then (at ∷ set) rest C = order_reads order (at ∷ set) f.1 in
-        subst (λ o. reads_from sight (item_steps b.catalog.rels q set at o ++ rest) s ≤ factor u m at o * C) (sym is) (by item is f.0.3 C one rest h)
+        let from : 0 + at ≡ at = omega arith in
+        let less : left_of u m set 0 q.items ≡ factor u m at (Some item) * C =
+        subst (λ n. left_of u m set 0 q.items ≡ factor u m n (Some item) * left_of u m (n ∷ set) 0 q.items) from (left_one u m set 0 at q.items item is (ap (is_among set) from ∙ f.0.2)) in
+        subst (λ n. reads_from sight (item_steps b.catalog.rels q set at (slice_get q.items at) ++ rest) s ≤ n) (sym less)
+        (subst (λ o. reads_from sight (item_steps b.catalog.rels q set at o ++ rest) s ≤ factor u m at (Some item) * C) (sym is) (by item is f.0.3 C one rest h))
       where
         by : (item : Item) → slice_get q.items at ≡ Some item → Needs q set item → (C : ℕ) → 1 ≤ C → (rest : List Step) → Then (at ∷ set) rest C → reads_from sight (item_steps b.catalog.rels q set at (Some item) ++ rest) s ≤ factor u m at (Some item) * C
         by (Users alias) is needs C one rest h = users_read set at (due set at q.conds) rest C C (place_within q.items at (Users alias) is) (omega arith) one h s g
         by (Rel alias rel Plus path) is needs C one rest h = plus_read set at alias rel path (due set at q.conds) rest C C is needs (omega arith) one h s g
         by (Rel alias rel Minus path) is needs C one rest h = minus_read set at alias rel path (due set at q.conds) rest C C is needs.0 (omega arith) one h s g
 
--- ---- the product of all factors
+-- ---- a whole plan
 
-module _ (u : ℕ) (m : ℕ → ℕ) where
-  -- the product of the factors of the items that pass, from a place on
-  part : (Item → Bool) → ℕ → List Item → ℕ
-  part p at [] = 1
-  part p at (item ∷ items) = cond (p item) (factor u m at (Some item) * part p (at + 1) items) (part p (at + 1) items)
-
-  product_append : (items : List Item) (xs ys : List ℕ) → product u m items (xs ++ ys) ≡ product u m items xs * product u m items ys
-  product_append items [] ys = once (product u m items ys)
-    where
-      once : (n : ℕ) → n ≡ 1 * n
-      once n = grind arith
-  product_append items (x ∷ xs) ys = ap (λ n. factor u m x (slice_get items x) * n) (product_append items xs ys) ∙ grouped (factor u m x (slice_get items x)) (product u m items xs) (product u m items ys)
-    where
-      grouped : (a b c : ℕ) → a * (b * c) ≡ (a * b) * c
-      grouped a b c = grind arith
-
-  next_place : (all items : List Item) (item : Item) (at : ℕ) → ((k : ℕ) → slice_get all (at + k) ≡ slice_get (item ∷ items) k) → (k : ℕ) → slice_get all ((at + 1) + k) ≡ slice_get items k
-  next_place all items item at h k = ap (slice_get all) (moved at k) ∙ h (suc k)
-    where
-      moved : (at k : ℕ) → (at + 1) + k ≡ at + suc k
-      moved at k = omega arith
-
-  product_part : (p : Item → Bool) (all items : List Item) (at : ℕ) → ((k : ℕ) → slice_get all (at + k) ≡ slice_get items k) → product u m all (places p at items) ≡ part p at items
-  unfolding part
-  product_part p all [] at h = refl
-  product_part p all (item ∷ items) at h = by (product_part p all items (at + 1) (next_place all items item at h)) (p item)
-    where
-      here : slice_get all at ≡ Some item
-      here = ap (slice_get all) (same at) ∙ h 0
-        where
-          same : (at : ℕ) → at ≡ at + 0
-          same at = omega arith
-
-      by : product u m all (places p (at + 1) items) ≡ part p (at + 1) items → (t : Bool)
-          → product u m all (cond t (at ∷ places p (at + 1) items) (places p (at + 1) items)) ≡ cond t (factor u m at (Some item) * part p (at + 1) items) (part p (at + 1) items)
-      by rest true = ap (λ o. factor u m at o * product u m all (places p (at + 1) items)) here ∙ ap (λ n. factor u m at (Some item) * n) rest
-      by rest false = rest
-
-  parts : (items : List Item) (at : ℕ) → part is_users at items * (part is_plus at items * part is_minus_item at items) ≡ product_of u m at items
-  unfolding part
-  parts [] at = refl
-  parts (Users alias ∷ items) at = first (factor u m at (Some (Users alias))) (part is_users (at + 1) items) (part is_plus (at + 1) items) (part is_minus_item (at + 1) items) ∙ ap (λ n. factor u m at (Some (Users alias)) * n) (parts items (at + 1))
-    where
-      first : (f a b c : ℕ) → (f * a) * (b * c) ≡ f * (a * (b * c))
-      first f a b c = grind arith
-  parts (Rel alias rel Plus path ∷ items) at = second (factor u m at (Some (Rel alias rel Plus path))) (part is_users (at + 1) items) (part is_plus (at + 1) items) (part is_minus_item (at + 1) items) ∙ ap (λ n. factor u m at (Some (Rel alias rel Plus path)) * n) (parts items (at + 1))
-    where
-      second : (f a b c : ℕ) → a * ((f * b) * c) ≡ f * (a * (b * c))
-      second f a b c = grind arith
-  parts (Rel alias rel Minus path ∷ items) at = third (factor u m at (Some (Rel alias rel Minus path))) (part is_users (at + 1) items) (part is_plus (at + 1) items) (part is_minus_item (at + 1) items) ∙ ap (λ n. factor u m at (Some (Rel alias rel Minus path)) * n) (parts items (at + 1))
-    where
-      third : (f a b c : ℕ) → a * (b * (f * c)) ≡ f * (a * (b * c))
-      third f a b c = grind arith
-
-  -- the product of the factors of all items, whatever their order
-  product_in_order : (items : List Item) → product u m items (order_of items) ≡ product_of u m 0 items
-  product_in_order items =
-      product_append items (places is_users 0 items) (places is_plus 0 items ++ places is_minus_item 0 items)
-      ∙ ap (λ n. product u m items (places is_users 0 items) * n) (product_append items (places is_plus 0 items) (places is_minus_item 0 items))
-      ∙ ap (λ n. n * (product u m items (places is_plus 0 items) * product u m items (places is_minus_item 0 items))) (product_part is_users items items 0 (from_zero items))
-      ∙ ap (λ n. part is_users 0 items * (n * product u m items (places is_minus_item 0 items))) (product_part is_plus items items 0 (from_zero items))
-      ∙ ap (λ n. part is_users 0 items * (part is_plus 0 items * n)) (product_part is_minus_item items items 0 (from_zero items))
-      ∙ parts items 0
+pub orders_read : OrdersReadFew
+orders_read b sight number q order u m valid shows fits is few small =
+    let k = and_parts (nat_lt (length q.items) (2 ^ 32)) _ fits in
+    let items = (and_parts (list_all (item_fits b.catalog q.items) q.items) _ (and_parts (list_all (λ def. nat_lt (length def.cols) (2 ^ 32)) b.catalog.rels) _ k.1).1).0 in
+    subst (λ n. reads_from sight (steps_from b.catalog.rels q [] order) (start_of (length q.items)) ≤ n) (none_set u m 0 q.items)
+    (order_reads b sight number q shows items u m few small order [] is.fits (start_of (length q.items)) (good_start b sight number q shows items))
 
 pub plan_reads : PlanReadsAreBounded
 unfolding plan_steps
-plan_reads b sight number q u m valid shows fits few small =
-    let k = and_parts (nat_lt (length q.items) (2 ^ 32)) _ fits in
-    let items = (and_parts (list_all (item_fits b.catalog q.items) q.items) _ (and_parts (list_all (λ def. nat_lt (length def.cols) (2 ^ 32)) b.catalog.rels) _ k.1).1).0 in
-    subst (λ n. reads_from sight (steps_from b.catalog.rels q [] (order_of q.items)) (start_of (length q.items)) ≤ n) (product_in_order u m q.items)
-    (order_reads b sight number q shows items u m few small (order_of q.items) [] (order_fits b.catalog q items) (start_of (length q.items)) (good_start b sight number q shows items))
+plan_reads b sight number q u m valid shows fits few small = orders_read b sight number q (order_of q.items) u m valid shows fits (written_order b.catalog q fits) few small

@@ -16,6 +16,7 @@ use Rattle.bdb_plan.specs.PlanOf.{plan_steps}
 use Rattle.bdb_plan.specs.Running.{reads_from, start_of}
 use Rattle.bdb_plan.specs.Shown.{Shows}
 use Rattle.bdb_plan.specs.Sight.{Sight}
+use Rattle.bdb_trans.specs.Orders.{IsOrder, plan_in}
 
 -- The factor of an item: by how many places of users there are for a `Users` item; for another by its path, and how many rows of its
 -- relation the worlds of its path have.
@@ -34,6 +35,12 @@ abbrev pub AreSmall : Contents → Sight → (List ℕ → ℕ) → Query → (�
 AreSmall b sight number q rows = (at : ℕ) (alias : List ℕ) (rel : ℕ) (sign : Sign) (path : List Who) → slice_get q.items at ≡ Some (Rel alias rel sign path)
     → (slots : List (Option Tuple)) (w : List ℕ) → path_of slots path ≡ Some w → list_all (is_user b.catalog.users) w ≡ true → alternates w ≡ true
     → length (sight.rows (number (deepest_suffix (is_state b.stmts) w)) rel) ≤ rows at
+
+-- Whatever shows a valid base, and in whichever order the items of a query that fits are set, its plan reads at most the product of one factor for each item.
+abbrev pub OrdersReadFew : Type 0
+OrdersReadFew = (b : Contents) (sight : Sight) (number : List ℕ → ℕ) (q : Query) (order : List ℕ) (users : ℕ) (rows : ℕ → ℕ) → IsValid b.catalog b.stmts → Shows b sight number
+    → query_fits b.catalog q ≡ true → IsOrder q order → sight.places ≤ users → AreSmall b sight number q rows
+    → reads_from sight (plan_in b.catalog.rels q order).steps (start_of (length q.items)) ≤ product_of users rows 0 q.items
 
 -- Whatever shows a valid base, the plan of a query that fits reads at most the product of one factor for each item.
 abbrev pub PlanReadsAreBounded : Type 0

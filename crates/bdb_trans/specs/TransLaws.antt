@@ -9,6 +9,7 @@ use Rattle.bdb_plan.specs.PlanOf.{plan_of}
 use Rattle.bdb_plan.specs.Running.{meaning_of}
 use Rattle.bdb_plan.specs.Shown.{Shows}
 use Rattle.bdb_plan.specs.Sight.{Sight}
+use Rattle.bdb_trans.specs.Orders.{IsOrder, plan_in}
 
 -- Whatever shows a valid base, the plan of each safe query that fits means the query's answers.
 abbrev pub PlansMeanAnswers : Type 0
@@ -19,3 +20,13 @@ PlansMeanAnswers = (b : Contents) (sight : Sight) (number : List ℕ → ℕ) (q
 abbrev pub PlansFitSights : Type 0
 PlansFitSights = (b : Contents) (sight : Sight) (number : List ℕ → ℕ) (q : Query) → IsValid b.catalog b.stmts → Shows b sight number
     → query_fits b.catalog q ≡ true → IsSafe b.catalog.rels q → FitsSight sight (plan_of b.catalog.rels q)
+
+-- In whichever order the items of a safe query that fits are set, its plan means the query's answers, whatever shows a valid base.
+abbrev pub OrdersMeanAnswers : Type 0
+OrdersMeanAnswers = (b : Contents) (sight : Sight) (number : List ℕ → ℕ) (q : Query) (order : List ℕ) → IsValid b.catalog b.stmts → Shows b sight number
+    → query_fits b.catalog q ≡ true → IsSafe b.catalog.rels q → IsOrder q order → meaning_of sight (plan_in b.catalog.rels q order) ≡ answers_of b q
+
+-- And each `Neg` of it stands behind a `Bind` for each column.
+abbrev pub OrdersFitSights : Type 0
+OrdersFitSights = (b : Contents) (sight : Sight) (number : List ℕ → ℕ) (q : Query) (order : List ℕ) → IsValid b.catalog b.stmts → Shows b sight number
+    → query_fits b.catalog q ≡ true → IsSafe b.catalog.rels q → IsOrder q order → FitsSight sight (plan_in b.catalog.rels q order)

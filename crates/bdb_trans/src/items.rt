@@ -302,7 +302,7 @@ fn operand_set(set: &[u32], operand: &Operand) -> bool
     }
 }
 
-fn is_among(set: &[u32], item: u32) -> bool
+pub fn is_among(set: &[u32], item: u32) -> bool
     ensures { result ≡ is_among set.now item }
 {
     set.iter().any(|at| item == *at)

@@ -1,6 +1,6 @@
 //! The laws of the plans of queries.
-ghost use Rattle.bdb_trans.specs.Bounds.{PlanReadsAreBounded};
-ghost use Rattle.bdb_trans.specs.TransLaws.{PlansMeanAnswers, PlansFitSights};
+ghost use Rattle.bdb_trans.specs.Bounds.{OrdersReadFew, PlanReadsAreBounded};
+ghost use Rattle.bdb_trans.specs.TransLaws.{OrdersFitSights, OrdersMeanAnswers, PlansFitSights, PlansMeanAnswers};
 
 /// Whatever shows a valid base, the plan of a safe query that fits means the query's answers.
 pub fn plans_mean_answers()
@@ -15,4 +15,19 @@ pub fn plans_fit_sights()
 /// Whatever shows a valid base, the plan of a query that fits reads at most the product of one factor for each item.
 pub fn plan_reads_are_bounded()
     ensures { PlanReadsAreBounded }
+{}
+
+/// In whichever order the items of a safe query that fits are set, its plan means the query's answers.
+pub fn orders_mean_answers()
+    ensures { OrdersMeanAnswers }
+{}
+
+/// And it uses only what is set, at the widths of its relations.
+pub fn orders_fit_sights()
+    ensures { OrdersFitSights }
+{}
+
+/// And it reads at most the product of one factor for each item.
+pub fn orders_read_few()
+    ensures { OrdersReadFew }
 {}

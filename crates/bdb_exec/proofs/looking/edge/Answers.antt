@@ -29,4 +29,5 @@ returns-in-Ok-insert-clause-memo g c =
           (edge_is t c.args.world c.args.uid c.in-Ok.target c.in-Ok.ensures.found) c.in-Ok-insert.ensures.updates h.3,
       h.4,
       h.5,
+      h.6,
     )

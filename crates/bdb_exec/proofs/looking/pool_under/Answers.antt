@@ -25,4 +25,5 @@ returns-in-Ok-keep_pool-clause-memo g c =
       after_insert pair_cmp c.plus_under.new.memo.last_pools c.keep_pool.new.pools c.args.place (pool_of c.args.prefix.items c.in-Ok-plus_under.tuples)
           (λ place pool. pool.tuples ≡ plus_tuples (signed_under t pool.prefix)) (pair_tied c.args.place) tuples c.in-Ok-keep_pool.ensures.kept h.4,
       h.5,
+      h.6,
     )

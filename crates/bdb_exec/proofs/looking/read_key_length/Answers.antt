@@ -26,4 +26,5 @@ returns-in-Ok-insert-clause-memo g c =
       h.4,
       after_insert nat_cmp c.args.memo.now.lengths c.insert.new.self c.args.rel c.in-Ok.n (λ rel n. n ≡ (sight_of t).keys rel) (same_number c.args.rel)
           (length_is t c.args.rel c.in-Ok.n c.ranges.rel.fits c.in-Ok.ensures.row) c.in-Ok-insert.ensures.updates h.5,
+      h.6,
     )

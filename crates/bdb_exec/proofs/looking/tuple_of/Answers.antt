@@ -30,4 +30,5 @@ returns-in-Ok-keep_tuple-clause-memo g c =
       h.3,
       h.4,
       h.5,
+      h.6,
     )
