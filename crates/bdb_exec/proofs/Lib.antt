@@ -12,3 +12,4 @@ mod LookingLemmas
 mod LengthLemmas
 pub mod ShownLemmas
 mod SlotLemmas
+mod SeenKeyLemmas

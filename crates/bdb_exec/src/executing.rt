@@ -13,6 +13,7 @@ ghost use Rattle.bdb_exec.specs.Seen.{sight_of};
 use crate::errors::ExecError;
 use crate::memo::Memo;
 use crate::running::run;
+use crate::seen_keys::SeenKeys;
 use crate::state::State;
 use bdb_base::limits::MOST_LINES;
 use bdb_base::{List, Value};
@@ -81,14 +82,16 @@ fn rows_up_to<K: Keeper>(
     };
     let mut found = Found::new(alloc, most);
     let mut memo = Memo::new(alloc);
+    let mut keys = SeenKeys::new(alloc);
     match run(
         alloc,
         keeper,
         &mut memo,
+        plan,
         plan.steps(),
-        plan.take(),
         state,
         &mut found,
+        &mut keys,
     ) {
         Ok(()) => {}
         Err(error) => return Err(error),
