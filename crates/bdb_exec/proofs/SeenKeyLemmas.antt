@@ -1,11 +1,11 @@
 -- Rows that add nothing, what keys tell of steps, and what is remembered.
-use Rattle.std.proofs.Common.{◌≡◌, ◌∙◌, ℕ, zero, suc, pos, ◌+◌, ◌-◌, ◌≤◌, Bool, true, false, not, ◌&&◌, ◌||◌, cond, List, [], ◌∷◌, ◌++◌, Option, Some, None, length, map, take, drop, get_or, slice_set, refl, ap, sym, subst, inl, inr, arith, append_assoc, take-append-drop, length-append, append-nil}
+use Rattle.std.proofs.Common.{◌≡◌, ◌∙◌, ℕ, zero, suc, pos, ◌+◌, ◌-◌, ◌≤◌, Bool, true, false, not, ◌&&◌, ◌||◌, cond, nat_eq, List, [], ◌∷◌, ◌++◌, Option, Some, None, length, map, take, drop, get_or, slice_set, refl, ap, sym, subst, inl, inr, arith, append_assoc, take-append-drop, length-append, append-nil}
 use Rattle.std.specs.List.{flat_map, list_all, list_any, slice_get, sum_by}
 use Rattle.std.specs.Option.{option_map, option_and_then, unwrap_or}
 use Rattle.std.specs.Ordering.{is_eq}
 use Rattle.std.specs.declared.cmp.Ordering.{Ordering}
 use Rattle.std.specs.declared.cmp.Ordering.TheVariants.{Less, Equal, Greater}
-use Rattle.std.proofs.lemmas.Bool.{cases_Bool, cond-true, cond-false, false≢true}
+use Rattle.std.proofs.lemmas.Bool.{eqb-true, false≢true}
 use Rattle.std.proofs.lemmas.Cmp.{tied_itself}
 use Rattle.std.proofs.lemmas.List.{take_rest}
 use Rattle.std.proofs.lemmas.List.Sums.{sum_by-cons}
@@ -37,7 +37,7 @@ use Rattle.bdb_plan.specs.Naming.{columns_named}
 use Rattle.bdb_plan.specs.Running.{Reached, with_world, with_slot, plus_tuples, reached_if, rows_from}
 use Rattle.bdb_plan.specs.Sight.{Sight}
 use Rattle.bdb_exec.specs.LookUps.{looks_from}
-use Rattle.bdb_exec.specs.SeenKeys.{needs_columns_alone, columns_needed, behind_tests, numbers_of, IsKey, has_key, stands_by, stands_in, add_nothing, IsEnd, HasSeen}
+use Rattle.bdb_exec.specs.SeenKeys.{needs_columns_alone, columns_needed, without, behind_tests, numbers_of, IsKey, has_key, stands_by, stands_in, add_nothing, IsEnd, HasSeen}
 
 -- ---- rows that stand there
 
@@ -183,11 +183,27 @@ set_point g (y ∷ a) (z ∷ b) (suc i) (suc j) x n e = set_point g a b i j x (o
 abbrev Same : List (Option Tuple) → List (Option Tuple) → List Ref → Type 0
 Same a b columns = map (known a) columns ≡ map (known b) columns
 
-same_set : (a b : List (Option Tuple)) (item : ℕ) (t : Tuple) (columns : List Ref) → length a ≡ length b → Same a b columns → Same (slice_set a item (Some t)) (slice_set b item (Some t)) columns
+set_here : (g : Option Tuple → Option Value) (a b : List (Option Tuple)) (i : ℕ) (x : Option Tuple) → length a ≡ length b → g (slot_at (slice_set a i x) i) ≡ g (slot_at (slice_set b i x) i)
+set_here g [] [] i x n = refl
+set_here g [] (z ∷ b) i x n = absurd (omega (arith, n))
+set_here g (y ∷ a) [] i x n = absurd (omega (arith, n))
+set_here g (y ∷ a) (z ∷ b) zero x n = refl
+set_here g (y ∷ a) (z ∷ b) (suc i) x n = set_here g a b i x (omega (arith, n))
+
+-- what is chosen for an item needn't have been the same before
+same_set : (a b : List (Option Tuple)) (item : ℕ) (t : Tuple) (columns : List Ref) → length a ≡ length b → Same a b (without item columns) → Same (slice_set a item (Some t)) (slice_set b item (Some t)) columns
 same_set a b item t [] n e = refl
-same_set a b item t (r ∷ rs) n e =
-    ap (λ o. o ∷ map (known (slice_set a item (Some t))) rs) (set_point (option_and_then (λ u. slice_get u.vals r.col)) a b item r.item (Some t) n (head_same e))
-    ∙ ap (λ os. known (slice_set b item (Some t)) r ∷ os) (same_set a b item t rs n (tail_same e))
+same_set a b item t (r ∷ rs) n e = by (nat_eq r.item item) refl (same_set a b item t rs n) e
+  where
+    both : known (slice_set a item (Some t)) r ≡ known (slice_set b item (Some t)) r → Same (slice_set a item (Some t)) (slice_set b item (Some t)) rs → Same (slice_set a item (Some t)) (slice_set b item (Some t)) (r ∷ rs)
+    both one rest = ap (λ o. o ∷ map (known (slice_set a item (Some t))) rs) one ∙ ap (λ os. known (slice_set b item (Some t)) r ∷ os) rest
+
+    by : (k : Bool) → nat_eq r.item item ≡ k → (Same a b (without item rs) → Same (slice_set a item (Some t)) (slice_set b item (Some t)) rs)
+        → Same a b (cond (not k) (r ∷ without item rs) (without item rs)) → Same (slice_set a item (Some t)) (slice_set b item (Some t)) (r ∷ rs)
+    by true k rest h =
+        both (subst (λ j. option_and_then (λ u. slice_get u.vals r.col) (slot_at (slice_set a item (Some t)) j) ≡ option_and_then (λ u. slice_get u.vals r.col) (slot_at (slice_set b item (Some t)) j)) (sym (eqb-true r.item item k))
+        (set_here (option_and_then (λ u. slice_get u.vals r.col)) a b item (Some t) n)) (rest h)
+    by false k rest h = both (set_point (option_and_then (λ u. slice_get u.vals r.col)) a b item r.item (Some t) n (head_same h)) (rest (tail_same h))
 
 same_parts : (a b : List (Option Tuple)) (xs ys : List Ref) → Same a b (xs ++ ys) → Same a b xs × Same a b ys
 same_parts a b [] ys e = (refl, e)
@@ -260,10 +276,9 @@ module _ (sight : Sight) (taken : List Ref) where
   same_rows (step.Bind item col right ∷ xs) w a b alone n e = absurd (false≢true alone)
   same_rows (step.Neg item rel ∷ xs) w a b alone n e = absurd (false≢true alone)
   same_rows (step.Test c ∷ xs) w a b alone n e =
-      let parts = same_parts a b (columns_named (step.Test c)) (columns_needed xs taken)
-      (subst (Same a b) (append_assoc (columns_named (step.Test c)) (flat_map columns_named xs) taken) e) in
-      ap (λ t. flat_map (rows_from sight taken xs) (option_list (reached_if t (at w a)))) (same_test a b c parts.0)
-      ∙ same_tested (rows_from sight taken xs) (at w a) (at w b) (must_hold b c) (same_rows xs w a b alone n parts.1)
+      let parts = same_parts a b (columns_needed xs taken) (columns_named (step.Test c)) e in
+      ap (λ t. flat_map (rows_from sight taken xs) (option_list (reached_if t (at w a)))) (same_test a b c parts.1)
+      ∙ same_tested (rows_from sight taken xs) (at w a) (at w b) (must_hold b c) (same_rows xs w a b alone n parts.0)
 
 -- ---- keys
 

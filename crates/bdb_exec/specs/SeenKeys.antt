@@ -1,6 +1,6 @@
 -- Combinations of values for which the rest of a plan's steps was run already.
-use Rattle.std.specs.Prelude.{◌≡◌, ℕ, Bool, true, false, not, ◌&&◌, ◌||◌, pos, cond, List, [], ◌∷◌, ◌++◌, Option, Some, None, length}
-use Rattle.std.specs.List.{flat_map, list_any, list_all}
+use Rattle.std.specs.Prelude.{◌≡◌, ℕ, Bool, true, false, not, ◌&&◌, ◌||◌, nat_eq, pos, cond, List, [], ◌∷◌, ◌++◌, Option, Some, None, length, filter}
+use Rattle.std.specs.List.{list_any, list_all}
 use Rattle.std.specs.declared.cmp.Ordering.{Ordering}
 use Rattle.std.specs.declared.cmp.Ordering.TheVariants.{Less, Equal, Greater}
 use Rattle.std.specs.Ordering.{is_eq}
@@ -43,9 +43,21 @@ chooses _ = false
 abbrev pub are_remembered : List Step → Bool
 are_remembered steps = list_any chooses steps && list_all needs_columns_alone steps
 
+-- columns but those of an item
+abbrev pub without : ℕ → List Ref → List Ref
+without item columns = filter (λ r. not (nat_eq r.item item)) columns
+
+-- the columns needed before a step, of those needed behind it: what is chosen there anew isn't, and what is compared there is
+abbrev pub needed_before : Step → List Ref → List Ref
+needed_before (step.User item) columns = without item columns
+needed_before (step.Pos item rel) columns = without item columns
+needed_before (step.Test c) columns = columns ++ columns_named (step.Test c)
+needed_before _ columns = columns
+
 -- the columns on which it depends what comes of steps
 abbrev pub columns_needed : List Step → List Ref → List Ref
-columns_needed steps take = flat_map columns_named steps ++ take
+columns_needed [] take = take
+columns_needed (x ∷ xs) take = needed_before x (columns_needed xs take)
 
 -- what is behind the tests that steps begin with; none where one of them doesn't hold
 abbrev pub behind_tests : List (Option Tuple) → List Step → Option (List Step)

@@ -1,13 +1,12 @@
 // Combinations of values for which the rest of a plan's steps was run already.
 ghost use Rattle.std.specs.Prelude.{◌≡◌, ◌≤◌, ◌++◌, ◌∷◌, [], pos, length, drop, IfOk, IfSome, OnOk};
-ghost use Rattle.std.specs.List.{flat_map, list_any, list_all};
+ghost use Rattle.std.specs.List.{list_any, list_all};
 ghost use Rattle.std.specs.Option.{option_map};
 ghost use Rattle.bdb_base.specs.Order.{row_cmp};
 ghost use Rattle.bdb_base.specs.SortedSet.{put_in};
 ghost use Rattle.bdb_base.specs.Safety.{operand_columns};
 ghost use Rattle.bdb_base.specs.declared.kinds.Value.TheVariants.{Int};
-ghost use Rattle.bdb_plan.specs.Naming.{columns_named};
-ghost use Rattle.bdb_exec.specs.SeenKeys.{are_remembered, behind_tests, chooses, columns_needed, has_key, is_fixed, needs_columns_alone, numbers_of, IsKey};
+ghost use Rattle.bdb_exec.specs.SeenKeys.{are_remembered, behind_tests, chooses, columns_needed, has_key, is_fixed, needed_before, needs_columns_alone, without, IsKey};
 
 use crate::shared::Shared;
 use crate::state::State;
@@ -263,37 +262,42 @@ fn is_fixed(who: Who) -> bool
 fn columns_needed(alloc: Global, steps: &[Step], take: &[Ref]) -> Result<List<Ref>, AllocError>
     ensures { IfOk result (λ columns. columns ≡ columns_needed steps.now take.now) }
 {
-    let mut columns = named_columns(alloc, steps)?;
+    let mut columns = copied_columns(alloc, take)?;
+    let mut at = steps.len();
+    while at > 0 {
+        at -= 1;
+        put_needed(&mut columns, &steps[at])?;
+    }
+    Ok(columns)
+}
+
+fn copied_columns(alloc: Global, take: &[Ref]) -> Result<List<Ref>, AllocError>
+    ensures { IfOk result (λ columns. columns ≡ take.now) }
+{
+    let mut columns = List::new(alloc);
     for r in take {
         columns.push(*r)?;
     }
     Ok(columns)
 }
 
-fn named_columns(alloc: Global, steps: &[Step]) -> Result<List<Ref>, AllocError>
-    ensures { IfOk result (λ columns. columns ≡ flat_map columns_named steps.now) }
-{
-    let mut columns = List::new(alloc);
-    for step in steps {
-        put_columns(&mut columns, step)?;
-    }
-    Ok(columns)
-}
-
-// Puts the columns that a step names behind others.
-fn put_columns(columns: &mut List<Ref>, step: &Step) -> Result<(), AllocError>
-    ensures { OnOk result (columns.new ≡ columns.old ++ columns_named step.now) }
+// Makes of the columns that are needed behind a step those needed before it.
+fn put_needed(columns: &mut List<Ref>, step: &Step) -> Result<(), AllocError>
+    ensures { OnOk result (columns.new ≡ needed_before step.now columns.old) }
 {
     match step {
-        Step::User { .. } => Ok(()),
+        Step::User { item } => {
+            drop_item(columns, *item);
+            Ok(())
+        }
         Step::Start { .. } => Ok(()),
         Step::Edge { .. } => Ok(()),
         Step::Differ { .. } => Ok(()),
-        Step::Pos { .. } => Ok(()),
-        Step::Bind { right, .. } => {
-            put_operand(columns, right)?;
+        Step::Pos { item, .. } => {
+            drop_item(columns, *item);
             Ok(())
         }
+        Step::Bind { .. } => Ok(()),
         Step::Neg { .. } => Ok(()),
         Step::Test { cond } => {
             columns.push(cond.left)?;
@@ -301,6 +305,13 @@ fn put_columns(columns: &mut List<Ref>, step: &Step) -> Result<(), AllocError>
             Ok(())
         }
     }
+}
+
+// Takes the columns of an item away.
+fn drop_item(columns: &mut List<Ref>, item: u32)
+    ensures { columns.new ≡ without item columns.old }
+{
+    columns.retain(|r| r.item != item);
 }
 
 fn put_operand(columns: &mut List<Ref>, operand: &Operand) -> Result<(), AllocError>

@@ -1,7 +1,13 @@
-use Rattle.std.proofs.Common.{◌≡◌, ◌++◌, take}
-use Rattle.std.specs.List.{flat_map}
-use Rattle.bdb_plan.specs.Naming.{columns_named}
+use Rattle.std.proofs.Common.{◌≡◌, ◌≤◌, drop, length}
+use Rattle.bdb_exec.specs.SeenKeys.{columns_needed}
 use Rattle.bdb_exec.proofs.seen_keys.columns_needed.Given as goal
 
-abbrev pub invariant-loop-r : goal.invariant-loop-r
-invariant-loop-r l = l.columns ≡ flat_map columns_named l.steps ++ take l.r-index l.take
+-- what is needed before the steps from a place on
+abbrev pub invariant-loop-at : goal.invariant-loop-at
+invariant-loop-at l = record {
+  within : l.at ≤ length l.steps;
+  columns : l.columns ≡ columns_needed (drop l.at l.steps) l.take;
+}
+
+abbrev pub decreases-loop-at : goal.decreases-loop-at
+decreases-loop-at l = l.at
