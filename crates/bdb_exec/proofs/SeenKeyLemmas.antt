@@ -1,6 +1,6 @@
 -- Rows that add nothing, what keys tell of steps, and what is remembered.
-use Rattle.std.proofs.Common.{◌≡◌, ◌∙◌, ℕ, zero, suc, pos, ◌+◌, ◌-◌, ◌≤◌, Bool, true, false, not, ◌&&◌, ◌||◌, cond, nat_eq, List, [], ◌∷◌, ◌++◌, Option, Some, None, length, map, take, drop, get_or, slice_set, refl, ap, sym, subst, inl, inr, arith, append_assoc, take-append-drop, length-append, append-nil}
-use Rattle.std.specs.List.{flat_map, list_all, list_any, slice_get, sum_by}
+use Rattle.std.proofs.Common.{◌≡◌, ◌∙◌, ℕ, zero, suc, pos, ◌+◌, ◌-◌, Bool, true, false, not, ◌&&◌, ◌||◌, cond, nat_eq, List, [], ◌∷◌, ◌++◌, Option, Some, None, length, map, take, drop, get_or, slice_set, refl, ap, sym, subst, arith, append_assoc, take-append-drop, length-append, append-nil}
+use Rattle.std.specs.List.{flat_map, list_all, slice_get, sum_by}
 use Rattle.std.specs.Option.{option_map, option_and_then, unwrap_or}
 use Rattle.std.specs.Ordering.{is_eq}
 use Rattle.std.specs.declared.cmp.Ordering.{Ordering}
@@ -22,7 +22,6 @@ use Rattle.bdb_base.specs.declared.kinds.Operand.TheVariants.{Col, Lit}
 use Rattle.bdb_base.specs.declared.kinds.Ref.{Ref}
 use Rattle.bdb_base.specs.declared.kinds.Value.{Value}
 use Rattle.bdb_base.specs.declared.kinds.Value.TheVariants.{Int}
-use Rattle.bdb_base.specs.declared.kinds.Who.{Who}
 use Rattle.bdb_base.specs.declared.kinds.Who.TheVariants.{User, Of}
 use Rattle.bdb_base.specs.declared.tuple.Tuple.{Tuple}
 use Rattle.bdb_queries.specs.Collected.{Collected, Values, has_room, with_row, with_rows}

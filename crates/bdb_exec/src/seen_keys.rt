@@ -152,7 +152,7 @@ fn put_row(rows: &mut BTreeSet<Row>, row: Row) -> Result<(), AllocError>
     Ok(())
 }
 
-/// The key of where a run stands before steps; none where they aren't remembered.
+/// The key of where a run stands before steps; none where it doesn't pay to remember it.
 pub fn key_of(
     alloc: Global,
     steps: &[Step],
@@ -165,6 +165,9 @@ pub fn key_of(
         return Ok(None);
     }
     let columns = columns_needed(alloc, steps, take)?;
+    if !may_come_again(state.slots(), columns.as_slice()) {
+        return Ok(None);
+    }
     let values = match known_row(alloc, state.slots(), columns.as_slice())? {
         Some(values) => values,
         None => return Ok(None),
@@ -181,6 +184,23 @@ pub fn key_of(
     Ok(Some(Key {
         row: Row { values },
     }))
+}
+
+// Whether the values of these columns may well come again: of some item that is chosen the first column isn't among them.
+fn may_come_again(slots: &[Option<Shared>], columns: &[Ref]) -> bool {
+    for item in 0..slots.len() {
+        if slots[item].is_some() && !has_first(columns, item) {
+            return true;
+        }
+    }
+    false
+}
+
+// Whether an item's first column is among these.
+fn has_first(columns: &[Ref], item: usize) -> bool {
+    columns
+        .iter()
+        .any(|r| r.item as usize == item && r.col == 0)
 }
 
 // Values and three numbers behind them.
