@@ -13,3 +13,4 @@ mod LookingLemmas
 mod LengthLemmas
 pub mod ShownLemmas
 mod SlotLemmas
+mod SeenKeyLemmas

@@ -11,3 +11,4 @@ pub mod Looks
 pub mod Memos
 pub mod Readable
 pub mod Rows
+pub mod SeenKeys

@@ -13,6 +13,7 @@ ghost use Rattle.bdb_exec.specs.Seen.{sight_of};
 use crate::errors::ExecError;
 use crate::memo::Memo;
 use crate::running::run;
+use crate::seen_keys::SeenKeys;
 use crate::state::State;
 use bdb_base::limits::MOST_LINES;
 use bdb_base::{List, Value};
@@ -29,7 +30,8 @@ pub type Rows = List<List<Value>>;
 /// there are more than an answer may have. Of a world it reads the rows of a relation, or of the prefix of a key where the
 /// tests behind the choice ask for its first columns. Users, edges, the lengths of keys, the tuples of a whole relation in a world,
 /// and each tuple that was decoded are remembered until the end; and of each world and relation the tuples of the prefix of a
-/// key that was asked for last.
+/// key that was asked for last. Steps that depend on the values of columns alone aren't run again for values for which they were
+/// run, where the first column of some item that is chosen isn't among them.
 pub fn run_plan<K: Keeper>(alloc: Global, keeper: &mut K, plan: &Plan) -> Result<Rows, ExecError>
     requires run { CanBeRun (K.seen keeper.old).kept }
     ensures rows { IfOk result (λ rows. rows ≡ meaning_of (sight_of (K.seen keeper.old).kept)
@@ -81,14 +83,16 @@ fn rows_up_to<K: Keeper>(
     };
     let mut found = Found::new(alloc, most);
     let mut memo = Memo::new(alloc);
+    let mut keys = SeenKeys::new(alloc);
     match run(
         alloc,
         keeper,
         &mut memo,
+        plan,
         plan.steps(),
-        plan.take(),
         state,
         &mut found,
+        &mut keys,
     ) {
         Ok(()) => {}
         Err(error) => return Err(error),

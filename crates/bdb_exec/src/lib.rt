@@ -13,6 +13,7 @@ mod passing;
 mod prefixes;
 mod reading;
 mod running;
+mod seen_keys;
 mod shared;
 mod slots;
 mod state;

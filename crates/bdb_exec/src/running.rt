@@ -11,15 +11,17 @@ ghost use Rattle.bdb_tables.specs.Reading.{OnlyReads};
 ghost use Rattle.bdb_exec.specs.Memos.{Recalls};
 ghost use Rattle.bdb_exec.specs.Readable.{CanBeRun};
 ghost use Rattle.bdb_exec.specs.Seen.{sight_of};
+ghost use Rattle.bdb_exec.specs.SeenKeys.{IsEnd, IsKey, HasSeen};
 
 use crate::deciding::decide;
 use crate::memo::Memo;
 use crate::reading::choices;
+use crate::seen_keys::{Key, SeenKeys, key_of, tests_ahead};
 use crate::shared::Shared;
 use crate::state::State;
 use bdb_base::{List, Ref};
 use bdb_keep::Keeper;
-use bdb_plan::Step;
+use bdb_plan::{Plan, Step};
 use bdb_queries::{Found, known_row};
 use bdb_tables::TabError;
 use std::alloc::{AllocError, Global};
@@ -95,30 +97,172 @@ pub fn advance<K: Keeper>(
     Ok(Came::End { state })
 }
 
-/// Takes the rows that come of steps. It stops where there are too many.
+/// Takes the rows that come of the last steps of a plan. It stops where there are too many, and runs nothing again for values for
+/// which it was run.
 #[cycle(running)]
 pub fn run<K: Keeper>(
     alloc: Global,
     keeper: &mut K,
     memo: &mut Memo,
+    plan: &Plan,
     steps: &[Step],
-    take: &[Ref],
     state: State,
     found: &mut Found,
+    keys: &mut SeenKeys,
 ) -> Result<(), TabError>
     requires run { CanBeRun (K.seen keeper.old).kept }
     requires memo { Recalls (K.seen keeper.old).kept memo.old }
+    requires end { IsEnd plan.now.steps steps.now }
+    requires keys { HasSeen (sight_of (K.seen keeper.old).kept) plan.now found.old keys.old }
     ensures rows { OnOk result
         (found.new ≡ with_rows found.old
-        (rows_from (sight_of (K.seen keeper.old).kept) take.now steps.now state)) }
+        (rows_from (sight_of (K.seen keeper.old).kept) plan.now.take steps.now state)) }
     ensures reads { OnOk result ((K.seen keeper.new).reads ≤ (K.seen keeper.old).reads + looks_from
         (sight_of (K.seen keeper.old).kept) steps.now state) }
     ensures memo { OnOk result (Recalls (K.seen keeper.old).kept memo.new) }
+    ensures keys { OnOk result
+        (HasSeen (sight_of (K.seen keeper.old).kept) plan.now found.new keys.new) }
+    ensures looks { OnlyReads (K.seen keeper.old) (K.seen keeper.new) result TabError.Fault }
+{
+    let done = match tests_ahead(state.slots(), steps) {
+        Some(done) => done,
+        None => return Ok(()),
+    };
+    match run_once(
+        alloc,
+        keeper,
+        memo,
+        plan,
+        &steps[done..],
+        state,
+        found,
+        keys,
+    ) {
+        Ok(()) => Ok(()),
+        Err(error) => Err(error),
+    }
+}
+
+// Takes the rows that come of steps, unless they were run for the same key.
+#[cycle(running)]
+fn run_once<K: Keeper>(
+    alloc: Global,
+    keeper: &mut K,
+    memo: &mut Memo,
+    plan: &Plan,
+    steps: &[Step],
+    state: State,
+    found: &mut Found,
+    keys: &mut SeenKeys,
+) -> Result<(), TabError>
+    requires run { CanBeRun (K.seen keeper.old).kept }
+    requires memo { Recalls (K.seen keeper.old).kept memo.old }
+    requires end { IsEnd plan.now.steps steps.now }
+    requires keys { HasSeen (sight_of (K.seen keeper.old).kept) plan.now found.old keys.old }
+    ensures rows { OnOk result
+        (found.new ≡ with_rows found.old
+        (rows_from (sight_of (K.seen keeper.old).kept) plan.now.take steps.now state)) }
+    ensures reads { OnOk result ((K.seen keeper.new).reads ≤ (K.seen keeper.old).reads + looks_from
+        (sight_of (K.seen keeper.old).kept) steps.now state) }
+    ensures memo { OnOk result (Recalls (K.seen keeper.old).kept memo.new) }
+    ensures keys { OnOk result
+        (HasSeen (sight_of (K.seen keeper.old).kept) plan.now found.new keys.new) }
+    ensures looks { OnlyReads (K.seen keeper.old) (K.seen keeper.new) result TabError.Fault }
+{
+    let key = match key_of(alloc, steps, plan.take(), &state) {
+        Ok(key) => key,
+        Err(_) => {
+            keeper.undo();
+            return Err(TabError::Memory);
+        }
+    };
+    match key {
+        Some(key) => {
+            match run_key(alloc, keeper, memo, plan, steps, key, state, found, keys) {
+                Ok(()) => Ok(()),
+                Err(error) => Err(error),
+            }
+        }
+        None => match run_steps(alloc, keeper, memo, plan, steps, state, found, keys) {
+            Ok(()) => Ok(()),
+            Err(error) => Err(error),
+        },
+    }
+}
+
+// Takes the rows that come of steps, unless their key was seen.
+#[cycle(running)]
+fn run_key<K: Keeper>(
+    alloc: Global,
+    keeper: &mut K,
+    memo: &mut Memo,
+    plan: &Plan,
+    steps: &[Step],
+    key: Key,
+    state: State,
+    found: &mut Found,
+    keys: &mut SeenKeys,
+) -> Result<(), TabError>
+    requires run { CanBeRun (K.seen keeper.old).kept }
+    requires memo { Recalls (K.seen keeper.old).kept memo.old }
+    requires end { IsEnd plan.now.steps steps.now }
+    requires key { IsKey steps.now plan.now.take state key }
+    requires keys { HasSeen (sight_of (K.seen keeper.old).kept) plan.now found.old keys.old }
+    ensures rows { OnOk result
+        (found.new ≡ with_rows found.old
+        (rows_from (sight_of (K.seen keeper.old).kept) plan.now.take steps.now state)) }
+    ensures reads { OnOk result ((K.seen keeper.new).reads ≤ (K.seen keeper.old).reads + looks_from
+        (sight_of (K.seen keeper.old).kept) steps.now state) }
+    ensures memo { OnOk result (Recalls (K.seen keeper.old).kept memo.new) }
+    ensures keys { OnOk result
+        (HasSeen (sight_of (K.seen keeper.old).kept) plan.now found.new keys.new) }
+    ensures looks { OnlyReads (K.seen keeper.old) (K.seen keeper.new) result TabError.Fault }
+{
+    if keys.has(&key) {
+        return Ok(());
+    }
+    match run_steps(alloc, keeper, memo, plan, steps, state, found, keys) {
+        Ok(()) => {}
+        Err(error) => return Err(error),
+    }
+    match keys.add(key) {
+        Ok(()) => Ok(()),
+        Err(_) => {
+            keeper.undo();
+            Err(TabError::Memory)
+        }
+    }
+}
+
+// Takes the rows that come of steps, up to the first choice and for each tuple there.
+#[cycle(running)]
+fn run_steps<K: Keeper>(
+    alloc: Global,
+    keeper: &mut K,
+    memo: &mut Memo,
+    plan: &Plan,
+    steps: &[Step],
+    state: State,
+    found: &mut Found,
+    keys: &mut SeenKeys,
+) -> Result<(), TabError>
+    requires run { CanBeRun (K.seen keeper.old).kept }
+    requires memo { Recalls (K.seen keeper.old).kept memo.old }
+    requires end { IsEnd plan.now.steps steps.now }
+    requires keys { HasSeen (sight_of (K.seen keeper.old).kept) plan.now found.old keys.old }
+    ensures rows { OnOk result
+        (found.new ≡ with_rows found.old
+        (rows_from (sight_of (K.seen keeper.old).kept) plan.now.take steps.now state)) }
+    ensures reads { OnOk result ((K.seen keeper.new).reads ≤ (K.seen keeper.old).reads + looks_from
+        (sight_of (K.seen keeper.old).kept) steps.now state) }
+    ensures memo { OnOk result (Recalls (K.seen keeper.old).kept memo.new) }
+    ensures keys { OnOk result
+        (HasSeen (sight_of (K.seen keeper.old).kept) plan.now found.new keys.new) }
     ensures looks { OnlyReads (K.seen keeper.old) (K.seen keeper.new) result TabError.Fault }
 {
     match advance(alloc, keeper, memo, steps, state) {
         Ok(Came::Nothing) => Ok(()),
-        Ok(Came::End { state }) => match finish(alloc, take, &state, found) {
+        Ok(Came::End { state }) => match finish(alloc, plan.take(), &state, found) {
             Ok(()) => Ok(()),
             Err(_) => {
                 keeper.undo();
@@ -134,7 +278,16 @@ pub fn run<K: Keeper>(
             },
         ) => {
             let choosing = Choosing { item, pool, state };
-            match run_each(alloc, keeper, memo, &steps[done..], take, choosing, found) {
+            match run_each(
+                alloc,
+                keeper,
+                memo,
+                plan,
+                &steps[done..],
+                choosing,
+                found,
+                keys,
+            ) {
                 Ok(()) => Ok(()),
                 Err(error) => Err(error),
             }
@@ -150,22 +303,27 @@ fn run_each<K: Keeper>(
     alloc: Global,
     keeper: &mut K,
     memo: &mut Memo,
+    plan: &Plan,
     steps: &[Step],
-    take: &[Ref],
     choosing: Choosing,
     found: &mut Found,
+    keys: &mut SeenKeys,
 ) -> Result<(), TabError>
     requires run { CanBeRun (K.seen keeper.old).kept }
     requires memo { Recalls (K.seen keeper.old).kept memo.old }
+    requires end { IsEnd plan.now.steps steps.now }
+    requires keys { HasSeen (sight_of (K.seen keeper.old).kept) plan.now found.old keys.old }
     ensures rows { OnOk result
         (found.new ≡ with_rows found.old
         (flat_map
         (rows_with (sight_of (K.seen keeper.old).kept)
-        take.now steps.now choosing.state choosing.item) choosing.pool)) }
+        plan.now.take steps.now choosing.state choosing.item) choosing.pool)) }
     ensures reads { OnOk result ((K.seen keeper.new).reads ≤ (K.seen keeper.old).reads + sum_by
         (looks_with (sight_of (K.seen keeper.old).kept) steps.now choosing.state choosing.item)
         choosing.pool) }
     ensures memo { OnOk result (Recalls (K.seen keeper.old).kept memo.new) }
+    ensures keys { OnOk result
+        (HasSeen (sight_of (K.seen keeper.old).kept) plan.now found.new keys.new) }
     ensures looks { OnlyReads (K.seen keeper.old) (K.seen keeper.new) result TabError.Fault }
 {
     let Choosing {
@@ -180,7 +338,7 @@ fn run_each<K: Keeper>(
         }
         if left.as_slice().is_empty() {
             let last = here.with(item, tuple);
-            match run(alloc, keeper, memo, steps, take, last, found) {
+            match run(alloc, keeper, memo, plan, steps, last, found, keys) {
                 Ok(()) => return Ok(()),
                 Err(error) => return Err(error),
             }
@@ -192,7 +350,7 @@ fn run_each<K: Keeper>(
                 return Err(TabError::Memory);
             }
         };
-        match run(alloc, keeper, memo, steps, take, next, found) {
+        match run(alloc, keeper, memo, plan, steps, next, found, keys) {
             Ok(()) => {}
             Err(error) => return Err(error),
         }
