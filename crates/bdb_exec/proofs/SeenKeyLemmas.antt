@@ -223,9 +223,6 @@ same_row a b (r ∷ rs) e =
     ap (λ (o : Option (List Value)). option_and_then (λ v. option_map (λ vs. v ∷ vs) o) (known a r)) (same_row a b rs (tail_same e))
     ∙ ap (option_and_then (λ v. option_map (λ vs. v ∷ vs) (known_row b rs))) (head_same e)
 
-some_values : Option (List Value) → List (Option Value)
-some_values o = map Some (unwrap_or o [])
-
 nothing_is_row : (vs : List Value) → ◌≡◌ {A = Option (List Value)} None (Some vs) → ⊥
 nothing_is_row vs e = cc
 

@@ -161,13 +161,10 @@ pub fn key_of(
 ) -> Result<Option<Key>, AllocError>
     ensures { IfOk result (λ key. IfSome key (λ k. IsKey steps.now take.now state.now k)) }
 {
-    if !are_remembered(steps) {
+    if !are_remembered(steps) || !may_come_again(state.slots(), steps, take) {
         return Ok(None);
     }
     let columns = columns_needed(alloc, steps, take)?;
-    if !may_come_again(state.slots(), columns.as_slice()) {
-        return Ok(None);
-    }
     let values = match known_row(alloc, state.slots(), columns.as_slice())? {
         Some(values) => values,
         None => return Ok(None),
@@ -186,21 +183,51 @@ pub fn key_of(
     }))
 }
 
-// Whether the values of these columns may well come again: of some item that is chosen the first column isn't among them.
-fn may_come_again(slots: &[Option<Shared>], columns: &[Ref]) -> bool {
+// Whether the values of a key may well come again: of some item that is chosen neither steps nor what is taken name the first column.
+fn may_come_again(slots: &[Option<Shared>], steps: &[Step], take: &[Ref]) -> bool {
     for item in 0..slots.len() {
-        if slots[item].is_some() && !has_first(columns, item) {
+        if slots[item].is_some() && !takes_first(take, item) && !name_first(steps, item) {
             return true;
         }
     }
     false
 }
 
-// Whether an item's first column is among these.
-fn has_first(columns: &[Ref], item: usize) -> bool {
-    columns
-        .iter()
-        .any(|r| r.item as usize == item && r.col == 0)
+fn takes_first(take: &[Ref], item: usize) -> bool {
+    for r in take {
+        if is_first(*r, item) {
+            return true;
+        }
+    }
+    false
+}
+
+fn name_first(steps: &[Step], item: usize) -> bool {
+    for step in steps {
+        if names_first(step, item) {
+            return true;
+        }
+    }
+    false
+}
+
+fn names_first(step: &Step, item: usize) -> bool {
+    match step {
+        Step::Test { cond } => is_first(cond.left, item) || is_first_column(&cond.right, item),
+        _ => false,
+    }
+}
+
+fn is_first_column(operand: &Operand, item: usize) -> bool {
+    match operand {
+        Operand::Col(r) => is_first(*r, item),
+        Operand::Lit(_) => false,
+    }
+}
+
+// Whether this is an item's first column.
+fn is_first(r: Ref, item: usize) -> bool {
+    r.item as usize == item && r.col == 0
 }
 
 // Values and three numbers behind them.
