@@ -80,10 +80,6 @@ of_key vs pool = filter (begins_so vs) pool
 abbrev pub rows_of_key : List Value → List (Tuple × Sign) → List (Tuple × Sign)
 rows_of_key vs rows = filter (λ x. begins_so vs x.0) rows
 
--- values by which tuples are looked up
-abbrev pub Values : Type 0
-Values = List Value
-
 -- ---- choices
 
 -- of what is chosen from, the tuples that the tests right behind let through

@@ -17,6 +17,7 @@ mod seen_keys;
 mod shared;
 mod slots;
 mod state;
+mod values;
 
 pub use errors::ExecError;
 pub use executing::{Rows, run_plan};

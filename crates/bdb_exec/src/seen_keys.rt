@@ -10,101 +10,18 @@ ghost use Rattle.bdb_exec.specs.SeenKeys.{are_remembered, behind_tests, chooses,
 
 use crate::shared::Shared;
 use crate::state::State;
-use bdb_base::{List, Operand, Ref, Value, Who, cmp_row};
+use crate::values::Key;
+use bdb_base::{List, Operand, Ref, Value, Who};
 use bdb_plan::Step;
 use bdb_queries::{known_row, must_hold};
 use std::alloc::{AllocError, Global};
-use std::cmp::Ordering;
 use std::collections::BTreeSet;
 use std::marker::Model;
-
-/// A key, which contracts see as its values.
-#[derive(Drop)]
-struct Row {
-    values: List<Value>,
-}
-
-impl Model for Row {
-    ghost use Rattle.bdb_queries.specs.Collected.{Values};
-
-    ghost Value = { Values };
-
-    ghost view = { λ r. r.values };
-}
-
-impl PartialEq for Row {
-    ghost use Rattle.std.specs.Cmp.{partial_equiv_from_equiv, eq_by_cmp_equiv};
-    ghost use Rattle.std.specs.Ordering.{eq_by_cmp};
-    ghost use Rattle.bdb_base.specs.Order.{row_cmp};
-    ghost use Rattle.bdb_base.specs.OrderLemmas.{row_exact};
-
-    ghost eq = { eq_by_cmp row_cmp };
-
-    ghost laws = { partial_equiv_from_equiv (eq_by_cmp_equiv row_exact.total) };
-
-    fn eq(&self, other: &Self) -> bool {
-        cmp_row(self.values.as_slice(), other.values.as_slice()) == Ordering::Equal
-    }
-}
-
-impl Eq for Row {
-    ghost use Rattle.std.specs.Cmp.{eq_by_cmp_equiv};
-    ghost use Rattle.bdb_base.specs.OrderLemmas.{row_exact};
-
-    ghost laws = { eq_by_cmp_equiv row_exact.total };
-}
-
-impl PartialOrd for Row {
-    ghost use Rattle.std.specs.Prelude.{Some, refl};
-    ghost use Rattle.std.specs.Cmp.{po};
-    ghost use Rattle.bdb_base.specs.Order.{row_cmp};
-    ghost use Rattle.bdb_base.specs.OrderLemmas.{row_exact};
-
-    ghost partial_cmp = { λ a b. Some (row_cmp a b) };
-
-    ghost laws = { po row_exact.total (λ _ _. refl) };
-
-    fn partial_cmp(&self, other: &Self) -> Option<Ordering> {
-        Some(self.cmp(other))
-    }
-}
-
-impl Ord for Row {
-    ghost use Rattle.std.specs.Prelude.{refl};
-    ghost use Rattle.bdb_base.specs.Order.{row_cmp};
-    ghost use Rattle.bdb_base.specs.OrderLemmas.{row_exact};
-
-    ghost cmp = { row_cmp };
-
-    ghost total = { row_exact.total };
-
-    ghost matches_partial_cmp = { λ _ _. refl };
-
-    ghost matches_eq = { λ _ _. refl };
-
-    fn cmp(&self, other: &Self) -> Ordering {
-        cmp_row(self.values.as_slice(), other.values.as_slice())
-    }
-}
-
-/// A key that is looked for and then kept.
-#[derive(Drop)]
-pub struct Key {
-    row: Row,
-}
-
-impl Model for Key {
-    ghost use Rattle.bdb_queries.specs.Collected.{Values};
-
-    ghost Value = { Values };
-
-    ghost view = { λ k. k.row };
-}
 
 /// The keys for which the rest of the steps was run.
 #[derive(Drop)]
 pub struct SeenKeys {
-    keys: BTreeSet<Row>,
+    keys: BTreeSet<Key>,
 }
 
 impl Model for SeenKeys {
@@ -130,23 +47,22 @@ impl SeenKeys {
     pub fn has(&self, key: &Key) -> bool
         ensures { result ≡ has_key self.now key.now }
     {
-        self.keys.contains(&key.row)
+        self.keys.contains(key)
     }
 
     /// Remembers a key.
     pub fn add(&mut self, key: Key) -> Result<(), AllocError>
         ensures { OnOk result (self.new ≡ put_in row_cmp self.old key) }
     {
-        let Key { row } = key;
-        put_row(&mut self.keys, row)
+        put_key(&mut self.keys, key)
     }
 }
 
-// Puts a row among others, unless it stands there.
-fn put_row(rows: &mut BTreeSet<Row>, row: Row) -> Result<(), AllocError>
-    ensures { OnOk result (rows.new.keys ≡ put_in row_cmp rows.old.keys row) }
+// Puts a key among others, unless it stands there.
+fn put_key(keys: &mut BTreeSet<Key>, key: Key) -> Result<(), AllocError>
+    ensures { OnOk result (keys.new.keys ≡ put_in row_cmp keys.old.keys key) }
 {
-    let Ok(_) = rows.insert(row) else {
+    let Ok(_) = keys.insert(key) else {
         return Err(AllocError);
     };
     Ok(())
@@ -178,9 +94,7 @@ pub fn key_of(
         Err(_) => return Ok(None),
     };
     let values = with_numbers(values, left, state.world(), items)?;
-    Ok(Some(Key {
-        row: Row { values },
-    }))
+    Ok(Some(Key { values }))
 }
 
 // Whether the values of a key may well come again: of some item that is chosen neither steps nor what is taken name the first column.
