@@ -79,7 +79,7 @@ def mixed(draw):
 
 
 def shown(draw):
-    """Worlds shown while rows change: 3,000 rows of the plain content, inherited by 300 paths, with both shown in between."""
+    """Worlds shown while rows change: 3,000 rows of the list, inherited by 300 paths, with both shown in between."""
     script = head(60)
     for number in range(3_000):
         script.append(insert(draw, (), sighting(number, 0), 1_000_000))
