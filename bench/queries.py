@@ -1,15 +1,17 @@
 #!/usr/bin/env python3
-"""queries.py PROGRAM [ROWS... [--seconds N]]
+"""queries.py PROGRAM [ROWS... [--seconds N] [--page]]
 
-Runs queries through the built beliefdb and through Python's sqlite3 in memory over the same rows, and prints the table "Queries" of
-docs/PERFORMANCE.md: 300, 600 and 1,200 rows a relation where no ROWS are named. The answers have to be the same; the exit status is 1
-where they aren't. Of the program the time is that of a script with the query less that of the script without it; where that is short, of
-many queries. Of both it is processor time, the least of three. A query that takes longer than N seconds (20) is told as over that.
+Runs queries through the built beliefdb and through Python's sqlite3 in memory over the same rows, and prints the table of queries of
+docs/PERFORMANCE.md, or puts it there with --page: 300, 600 and 1,200 rows a relation where no ROWS are named. The answers have to be the
+same; the exit status is 1 where they aren't. Of the program the time is that of a script with the query less that of the script without
+it; where that is short, of many queries. Of both it is processor time, the least of three. A query that takes longer than N seconds (20)
+is told as over that, and not asked over more rows. A time is in bold where it is above 3 ms and above 1.5 times SQLite's.
 
 Three relations have so many rows, of a key k, a text v and a number n with as many values as rows, and a number m with 20. Of four
 curators Ben denies a tenth of S, and Cleo has other texts in a tenth of T. In SQLite each world that is asked for is a table, with k as its
 primary key and no other index.
 """
+import os
 import random
 import resource
 import sqlite3
@@ -20,6 +22,7 @@ import time
 
 # Of each shape: the items, what is asked for, the conditions; and how many rows a relation has, where that is fixed.
 SHAPES = {
+    'one row by its key': ('S A', 'A.v', "A.k = 'S7'"),
     'two, by =': ('S A, T B', 'A.k, B.k', 'A.v = B.v'),
     'chain of three': ('S A, T B, R C', 'A.k, B.k, C.k', 'A.v = B.v and B.n = C.n'),
     'its ends first': ('S A, R C, T B', 'A.k, B.k, C.k', 'A.v = B.v and B.n = C.n'),
@@ -127,36 +130,62 @@ def reply_of(answers):
     return [', '.join(map(text, row)) for row in sorted(answers)] + [f'ok {len(answers)}']
 
 
-def line_of(program, rows, shape):
-    """The line of the table for a shape, and whether the answers are the same."""
+def cell_of(program, rows, shape):
+    """The cell of the table for a shape over so many rows, whether the answers are the same, and whether it came to an end."""
     items, take, where = shape
     took, lines = program.ask(f'select {take} from {items} where {where};\n')
     least, answers = ask_sqlite(rows, items_of(items), take, where)
-    same = lines is None or lines == reply_of(answers)
-    mine = f'over {program.seconds} s | ' if took is None else f'{took * 1e3:.2f} ms | {took / max(least, 1e-6):.1f}'
-    return f'{len(answers):,} | {least * 1e3:.2f} ms | {mine}' + ('' if same else ' DIFFERENT'), same
+    mine = f'over {program.seconds} s' if took is None else f'{took * 1e3:.2f}'
+    mine = f'**{mine}**' if took is None or took > max(3e-3, 1.5 * least) else mine
+    if lines is not None and lines != reply_of(answers):
+        return f'answers differ, {mine}', False, True
+    return f'{mine}, {least * 1e3:.2f}', True, took is not None
+
+
+def table_of(path, counts, seconds):
+    """The lines of the table, and whether all answers are the same."""
+    all_same, cells, over = True, {name: [] for name in SHAPES}, set()
+    with tempfile.TemporaryDirectory() as folder:
+        for count in counts + sorted({count for shape in SHAPES.values() for count in shape[3:]}):
+            rows = rows_of(count)
+            program = Program(path, rows, seconds, folder)
+            for name in SHAPES:
+                if SHAPES[name][3:] not in ((count,), () if count in counts else (count,)):
+                    continue
+                cell, same, ended = ('', True, False) if name in over else cell_of(program, rows, SHAPES[name][:3])
+                all_same = all_same and same
+                over |= set() if ended else {name}
+                cells[name].append(cell)
+                print(f'{name}, {count:,} rows: {cell}', file=sys.stderr, flush=True)
+    lines = [f"| query | {' | '.join(f'{count:,} rows' for count in counts)} |", '|---' * (1 + len(counts)) + '|']
+    return lines + [f"| {name} | {' | '.join(row + [''] * (len(counts) - len(row)))} |" for name, row in cells.items()], all_same
+
+
+def put_in_page(lines):
+    """Puts the table where the page has one."""
+    page = f'{os.path.dirname(os.path.abspath(__file__))}/../docs/PERFORMANCE.md'
+    with open(page) as it:
+        old = it.read().split('\n')
+    start = next(at for at, line in enumerate(old) if line.startswith('| query |'))
+    end = next(at for at in range(start, len(old)) if not old[at].startswith('|'))
+    with open(page, 'w') as it:
+        it.write('\n'.join(old[:start] + lines + old[end:]))
 
 
 def main():
-    words, seconds = sys.argv[1:], 20
+    words, seconds, page = sys.argv[1:], 20, '--page' in sys.argv
+    words = [word for word in words if word != '--page']
     if '--seconds' in words:
         at = words.index('--seconds')
         seconds = int(words[at + 1])
         del words[at:at + 2]
     if not words:
         sys.exit(__doc__)
-    all_same = True
-    print('| query | rows | answers | SQLite | program | ratio |\n|---|---|---|---|---|---|')
-    with tempfile.TemporaryDirectory() as folder:
-        fixed = {count for shape in SHAPES.values() for count in shape[3:]}
-        for count in [int(word) for word in words[1:]] or [300, 600, 1_200] + sorted(fixed):
-            rows = rows_of(count)
-            program = Program(words[0], rows, seconds, folder)
-            for name, shape in SHAPES.items():
-                if shape[3:] == ((count,) if count in fixed else ()):
-                    line, same = line_of(program, rows, shape[:3])
-                    all_same = all_same and same
-                    print(f'| {name} | {count:,} | {line} |', flush=True)
+    lines, all_same = table_of(words[0], [int(word) for word in words[1:]] or [300, 600, 1_200], seconds)
+    if page:
+        put_in_page(lines)
+    else:
+        print('\n'.join(lines))
     sys.exit(not all_same)
 
 
