@@ -1,5 +1,6 @@
 // Measures the small program for what no script can reach, beside plain Rust and the system's SQLite in the same run. Times are
 // those of the clock, since the program tells the time of each part by it: leave the machine alone meanwhile.
+#[allow(dead_code)]
 mod plain;
 #[allow(dead_code)]
 mod scripts;
