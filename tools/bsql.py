@@ -1,5 +1,6 @@
 """What the tools share: how a script is cut into commands, how values are written, and where a reply ends."""
 import re
+import signal
 from dataclasses import dataclass, field
 
 BLANKS = ' \t\n\r'
@@ -41,6 +42,11 @@ def pieces_of(script):
             piece.open_texts.append(line)
         line += span.count('\n')
     return [it for it in pieces + [piece] if it.code.strip(BLANKS)]
+
+
+def end_quietly_when_cut():
+    """Has a tool end without words once nobody reads its output any more, as behind `| head`."""
+    signal.signal(signal.SIGPIPE, signal.SIG_DFL)
 
 
 def quoted(text):

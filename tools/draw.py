@@ -9,6 +9,8 @@ import html
 import re
 import sys
 
+from bsql import end_quietly_when_cut
+
 PATH = r"(/|(?:/'(?:[^']|'')*')+)"
 WORLD = re.compile(rf"world {PATH} depth ([0-9]+)(?: suffix {PATH})?$")
 EDGE = re.compile(rf"edge {PATH} '((?:[^']|'')*)' {PATH}$")
@@ -149,6 +151,7 @@ def svg(worlds, edges):
 
 
 def main():
+    end_quietly_when_cut()
     options = words()
     source = sys.stdin if options.replies == '-' else open(options.replies, encoding='utf-8')
     worlds, edges = read(source.read().split('\n'))

@@ -7,7 +7,7 @@ import argparse
 import re
 import sys
 
-from bsql import BLANKS, END_OF_REPLY, pieces_of
+from bsql import BLANKS, END_OF_REPLY, end_quietly_when_cut, pieces_of
 
 HINTS = {
     'syntax': 'look for an open quote, then a missing comma, then a column without its alias',
@@ -100,10 +100,13 @@ def hint(piece, reply, many):
     """What to look at."""
     word = reply.split()[1]
     if piece.open_texts and word in ('syntax', 'long', 'unfinished', 'session'):
-        lines = ', '.join(map(str, piece.open_texts[:3]))
-        return f'a text that begins in line {lines} goes on past its line: a quote is missing or isn\'t doubled there'
+        first, others = piece.open_texts[0], ', '.join(map(str, piece.open_texts[1:3]))
+        return (f'a text that begins in line {first} goes on past its line: a quote is missing or isn\'t doubled there'
+                + (f', or else in line {others}' if others else ''))
     if word == 'session' and many:
         return 'begin each line with the number of its session, 0 to 15, and a blank'
+    if word == 'syntax' and not many and re.match(r'\s*[0-9]+\s', piece.code):
+        return 'it begins with the number of a session: run such a script by `beliefdb many`'
     return HINTS.get(word, 'see the table of refusals in docs/LANGUAGE.md')
 
 
@@ -117,6 +120,8 @@ def tell(piece, reply, many):
     end = reply[-1] if reply else 'no reply'
     print(f'line {piece.line}' + (f' to {piece.last}' if piece.open_texts else '') + f': {shown(piece)}')
     print(f'    {end}')
+    if not reply:
+        print('    the run ended before it (`echo $?` behind a run tells why), or these replies are of another script')
     if end.startswith('error '):
         print(f'    {hint(piece, end, many)}')
     if end.startswith('aborted ') and piece.code.strip(BLANKS).lower().endswith('commit'):
@@ -124,6 +129,7 @@ def tell(piece, reply, many):
 
 
 def main():
+    end_quietly_when_cut()
     options = words()
     try:
         with open(options.script, encoding='utf-8', errors='replace', newline='') as script, \
@@ -131,6 +137,8 @@ def main():
             pieces, replies = pieces_of(script.read()), Replies(text.read())
     except OSError as error:
         sys.exit(f'explain_errors.py: {error}')
+    if not options.many and re.match('[0-9]+: ', replies.next_line() or ''):
+        sys.exit('explain_errors.py: these are replies of `beliefdb many`; add --many')
     pairs = answered_in_stream(pieces, replies) if options.many else answered(pieces, replies)
     bad = [pair for pair in pairs if not pair[1] or pair[1][-1].startswith(('error ', 'aborted '))]
     for piece, reply in pairs if options.all else bad:

@@ -117,6 +117,25 @@ class ToBsql(unittest.TestCase):
         self.assertEqual("insert into R values('y', 'z');\n", script)
         self.assertIn('1 rows', errors)
 
+    def test_an_empty_text_is_told(self):
+        status, script, errors = self.convert('a,b\nx,\ny,z\n')
+        self.assertEqual((0, "insert into R values('x', '');\ninsert into R values('y', 'z');\n"), (status, script))
+        self.assertIn('1 empty cells became empty texts', errors)
+
+    def test_rows_of_another_csv_are_left_out(self):
+        with tempfile.TemporaryDirectory() as folder:
+            with open(f'{folder}/list.csv', 'w', encoding='utf-8') as it:
+                it.write('n,who,Nr\n07,X,a\n,X,b\n8\n')
+            known = ['--except', f'{folder}/list.csv', '--columns', 'k=Nr,n', '--int', 'n']
+            text = 'by,Nr,n\nAnna,a,7\nBen,a,8\nBen,b,9\n'
+            _, script, errors = self.convert(text, '--by', 'by', '--users', *known)
+            self.assertEqual(["create user 'Anna';", "create user 'Ben';", "insert into BELIEF 'Ben' R values('a', 8);",
+                              "insert into BELIEF 'Ben' R values('b', 9);"], script.splitlines())
+            self.assertIn('1 rows are in', errors)
+            self.assertIn('another row with the key', self.convert('by,Nr,n\nA,a,7\nA,a,8\n', '--by', 'by', *known)[2])
+            self.assertEqual((1, ''), self.convert(text, '--not', *known)[:2])
+            self.assertIn("no column headed 'm'", self.convert('m\nx\n', *known[:2])[2])
+
 
 class ToCsv(unittest.TestCase):
     SCRIPT = """create user 'Ann'; create relation R(k text, n int); create relation S(k text);
@@ -154,6 +173,17 @@ class ExplainErrors(unittest.TestCase):
         self.assertIn('line 3 to 4: insert', told)
         self.assertIn('a text that begins in line 3', told)
         self.assertIn('2 commands, 1 refused', told)
+
+    def test_one_way_of_running_is_not_taken_for_the_other(self):
+        script = "0 create relation S(k text);\n"
+        self.assertIn('run such a script by `beliefdb many`', self.explain(script)[1])
+        with tempfile.TemporaryDirectory() as folder:
+            for name, text in (('script', script), ('replies', program(script, 'many'))):
+                with open(f'{folder}/{name}', 'w', encoding='utf-8') as it:
+                    it.write(text)
+            status, told, errors = tool('explain_errors', f'{folder}/script', f'{folder}/replies')
+        self.assertEqual((1, ''), (status, told))
+        self.assertIn('add --many', errors)
 
     def test_all_is_well(self):
         self.assertEqual((0, '2 commands, 0 refused, 0 without effect\n', ''), self.explain("create relation S(k text); show world;"))

@@ -10,7 +10,7 @@ import io
 import re
 import sys
 
-from bsql import quoted
+from bsql import end_quietly_when_cut, quoted
 
 RESERVED = set('and as belief delete from insert into not or select set update values where'.split())
 MOST_COLUMNS, LONGEST_TEXT, MOST_USERS, MOST_TUPLES, MOST_STATEMENTS = 16, 255, 1024, 4000, 20000
@@ -19,7 +19,7 @@ EXAMPLES = """examples:
   to_bsql.py sheets.csv --relation Plants --columns sheet,plant --create > plants.bsql
       the relation Plants, and the list's plants
   to_bsql.py anna.csv --relation Plants --columns sheet,plant --belief Anna > anna.bsql
-      what Anna believes; with --not what she denies
+      what Anna believes; with --not what she denies; with --except sheets.csv only where she differs from the list
   to_bsql.py finds.csv --relation Finds --columns "sheet=Sheet No,year=Year" --int year --by Curator --many
       two columns under other names; whose belief a row is stands in the column Curator (empty: the list's);
       lines for `beliefdb many`, which is faster over a file"""
@@ -39,7 +39,10 @@ def words():
     parser.add_argument('--by', metavar='HEADER', help='the column that names whose belief a row is; an empty cell is the list')
     parser.add_argument('--users', action='store_true', help='write `create user` for each curator named, first of all')
     parser.add_argument('--not', dest='denied', action='store_true', help='the rows are denied')
-    parser.add_argument('--skip-empty', action='store_true', help='leave out each row that has nothing in one of the columns')
+    parser.add_argument('--skip-empty', action='store_true', help='leave out each row that has nothing in one of the columns; else it is an empty text')
+    parser.add_argument('--except', dest='known', metavar='CSV',
+                        help='leave out each row that this CSV has too, under the same headers: where it is the list, '
+                             'a curator goes by it there')
     parser.add_argument('--delimiter', default=',', metavar='SIGN', help='what stands between two cells (a comma)')
     parser.add_argument('--many', nargs='?', const=0, type=int, choices=range(16), metavar='SESSION',
                         help='write lines for `beliefdb many` in batches of 64, of this session (0)')
@@ -82,7 +85,8 @@ class Reader:
     """Rows of a CSV on their way to statements, and what is wrong with them."""
 
     def __init__(self, options, header):
-        self.options, self.problems, self.statements, self.skipped = options, [], [], 0
+        self.options, self.problems, self.statements = options, [], []
+        self.skipped, self.empty, self.known, self.repeated, self.curators = 0, 0, set(), 0, {}
         self.columns = columns_of(options.columns, options.by, header)
         self.whole = set(filter(None, options.int.split(',')))
         self.by = header.index(options.by) if options.by in header else None
@@ -96,6 +100,8 @@ class Reader:
         self.problems += [f'no column is headed {title!r}; there are {", ".join(header)}' for title in missing]
         self.problems += [f'--int names {name!r}, which is none of the columns' for name in sorted(self.whole - set(names))]
         self.problems += [f'two columns are named {name!r}' for name in sorted({it for it in names if names.count(it) > 1})]
+        if self.options.known and self.options.denied:
+            self.problems.append('--except leaves out the rows that a list has, and with --not these are the ones to deny')
         if self.options.relation == 'Users':
             self.problems.append('a relation can\'t be called Users')
         if self.options.by and self.by is None:
@@ -104,6 +110,15 @@ class Reader:
             self.problems.append(f'{len(names)} columns, and a relation has {MOST_COLUMNS} at most: make several relations')
         if not 1 <= self.options.key <= len(names):
             self.problems.append(f'a key of {self.options.key} columns, of {len(names)}')
+
+    def look_at_known(self, header, rows):
+        """Takes up the rows of the CSV of --except."""
+        missing = [title for _, _, title in self.columns if title not in header]
+        self.problems += [f'{self.options.known} has no column headed {title!r}' for title in missing]
+        if not missing:
+            cells = [(header.index(title), name in self.whole) for name, _, title in self.columns]
+            self.known = {tuple(value_of(row[place], whole)[0] for place, whole in cells)
+                          for row in rows if len(row) > max(cells)[0]}
 
     def path_of(self, row, number):
         path = tuple(self.options.belief + ([row[self.by]] if self.by is not None and row[self.by] else []))
@@ -124,16 +139,20 @@ class Reader:
         for name, place, _ in self.columns:
             value, problem = value_of(row[place], name in self.whole)
             values.append(value)
+            self.empty += name not in self.whole and not row[place].strip()
             if problem:
                 self.problems.append(f'row {number}, column {name}: {problem}')
         self.state(self.path_of(row, number), tuple(values), number)
 
     def state(self, path, values, number):
         """Notes a statement, unless the very same or one that clashes with it came before."""
+        self.curators.update(dict.fromkeys(path))
         key = values if self.options.denied else values[:self.options.key]
         before, first = self.seen.setdefault((path, key), (values, number))
         if before != values:
             self.problems.append(f'row {number}: another row with the key {", ".join(map(str, key))} is row {first}; see --key')
+        elif first == number and values in self.known:
+            self.repeated += 1
         elif first == number:
             self.statements.append((path, values))
 
@@ -143,19 +162,28 @@ class Reader:
             self.problems.append(f'{different} different rows, and a database holds {MOST_TUPLES}')
         if len(self.statements) > MOST_STATEMENTS:
             self.problems.append(f'{len(self.statements)} statements, and a database holds {MOST_STATEMENTS}')
-        users = len({name for path, _ in self.statements for name in path})
-        if users > MOST_USERS:
-            self.problems.append(f'{users} curators, and a database holds {MOST_USERS}')
+        if len(self.curators) > MOST_USERS:
+            self.problems.append(f'{len(self.curators)} curators, and a database holds {MOST_USERS}')
         if len(self.options.belief) + bool(self.options.by) > DEEPEST:
             self.problems.append(f'a path has at most {DEEPEST} curators')
 
 
+def header_and_rows(path, delimiter):
+    source = sys.stdin.buffer if path == '-' else open(path, 'rb')
+    try:
+        text = io.StringIO(source.read().decode('utf-8-sig'), newline='')
+    except UnicodeDecodeError:
+        sys.exit(f'to_bsql.py: {path} isn\'t in UTF-8: save it in that encoding')
+    rows = csv.reader(text, delimiter=delimiter)
+    return next(rows, []), rows
+
+
 def read(options):
     """A reader that has seen the whole CSV."""
-    source = sys.stdin.buffer if options.csv == '-' else open(options.csv, 'rb')
-    text = io.StringIO(source.read().decode('utf-8-sig'), newline='')
-    rows = csv.reader(text, delimiter=options.delimiter)
-    reader = Reader(options, next(rows, []))
+    header, rows = header_and_rows(options.csv, options.delimiter)
+    reader = Reader(options, header)
+    if options.known and not reader.problems:
+        reader.look_at_known(*header_and_rows(options.known, options.delimiter))
     if not reader.problems:
         for number, row in enumerate(rows, 2):
             if row:
@@ -168,8 +196,7 @@ def first_commands(options, reader):
     """The users and the relation, as far as they are asked for."""
     commands = []
     if options.users:
-        names = dict.fromkeys(name for path, _ in reader.statements for name in path)
-        commands += [f'create user {quoted(name)};' for name in names]
+        commands += [f'create user {quoted(name)};' for name in reader.curators]
     if options.create:
         columns = ', '.join(f'{name} {"int" if name in reader.whole else "text"}' for name, _, _ in reader.columns)
         key = f' key {options.key}' if options.key != 1 else ''
@@ -192,11 +219,10 @@ def batched(commands, session):
 
 
 def main():
+    end_quietly_when_cut()
     options = words()
     try:
         reader = read(options)
-    except UnicodeDecodeError:
-        sys.exit(f'to_bsql.py: {options.csv} isn\'t in UTF-8: save it in that encoding')
     except (OSError, TypeError, csv.Error) as error:
         sys.exit(f'to_bsql.py: {options.csv}: {error}')
     if reader.problems:
@@ -208,6 +234,10 @@ def main():
     print(*first, *rest, sep='\n')
     if reader.skipped:
         print(f'to_bsql.py: {reader.skipped} rows have an empty cell and were left out', file=sys.stderr)
+    if reader.empty:
+        print(f'to_bsql.py: {reader.empty} empty cells became empty texts; --skip-empty leaves such rows out', file=sys.stderr)
+    if reader.repeated:
+        print(f'to_bsql.py: {reader.repeated} rows are in {options.known} too and were left out', file=sys.stderr)
 
 
 if __name__ == '__main__':

@@ -8,7 +8,7 @@ import csv
 import re
 import sys
 
-from bsql import END_OF_REPLY, replies_of, values_of
+from bsql import END_OF_REPLY, end_quietly_when_cut, replies_of, values_of
 
 SIGNED = re.compile(r'([+-]) (\w+)\((.*)\) (explicit|inherited)$')
 EXAMPLES = """examples:
@@ -67,6 +67,7 @@ def collect(lines, relation):
 
 
 def main():
+    end_quietly_when_cut()
     options = words()
     source = sys.stdin if options.replies == '-' else open(options.replies, encoding='utf-8')
     rows, before, problems = collect(source.read().split('\n')[:-1], options.relation)
