@@ -3,7 +3,8 @@
 inherited in grey; a dashed line to the world that it inherits from; an arrow for each curator, to the world that one
 comes to by that name.
 
-Writes text for Graphviz (`dot -Tsvg`), or with --svg a picture, for up to 12 worlds."""
+Writes text for Graphviz (`dot -Tsvg`), or with --svg a picture, for up to 12 worlds. Where statements stand at paths of two
+curators and more, arrows cross there, and Graphviz draws better."""
 import argparse
 import html
 import re
@@ -74,8 +75,8 @@ def dot(worlds, edges):
     yield '}'
 
 
-def place(worlds):
-    """Gives each world its place: a column for each depth. Answers the size of the picture."""
+def place(worlds, edges):
+    """Gives each world its place: a column for each depth. Answers the size of the picture, and how far curves bow out."""
     x, heights = 60, []
     for depth in range(max(it.depth for it in worlds.values()) + 1):
         column = [it for it in worlds.values() if it.depth == depth]
@@ -85,24 +86,38 @@ def place(worlds):
             y += world.height() + 50
         heights.append(y)
         x += max((it.width() for it in column), default=0) + GAP
-    return x, max(heights)
+    far = bows(worlds, edges)
+    return x - GAP + max([GAP, *far.values()]), max(heights), far
 
 
-def curve(start, end, number):
-    """The four points of the curve from one world to another; the number keeps curves apart."""
+def is_beside(start, end):
+    """Whether two worlds stand in one column, one below the other."""
+    return start is not end and start.depth == end.depth
+
+
+def bows(worlds, edges):
+    """How far each curve within a column bows out: no two as far, and the short ones within the long ones."""
+    within = [it for it in edges if is_beside(worlds[it[0]], worlds[it[1]])]
+    within.sort(key=lambda it: abs(worlds[it[0]].y - worlds[it[1]].y))
+    step = min(35, 600 / max(1, len(within)))
+    return {edge: 40 + step * number for number, edge in enumerate(within)}
+
+
+def curve(start, end, bow, number):
+    """The four points of the curve from one world to another; the number keeps those apart that lead back from one world."""
     def side(world, right, part):
         return world.x + (world.width() if right else 0), world.y + world.height() * part
 
     if start is end:
         x, y = start.x + start.width() / 2, start.y
         return (x - 20, y), (x - 30, y - 40), (x + 30, y - 40), (x + 20, y)
-    if start.depth == end.depth:
-        bow, down = 40 + 35 * (number % 3), start.y < end.y
-        first, last = side(start, True, 0.75 if down else 0.25), side(end, True, 0.25 if down else 0.75)
+    if is_beside(start, end):
+        down = start.y < end.y
+        first, last = side(start, True, 0.7 if down else 0.5), side(end, True, 0.3 if down else 0.9)
         far = max(first[0], last[0]) + bow
         return first, (far, first[1]), (far, last[1]), last
     ahead = start.depth < end.depth
-    first, last = side(start, ahead, 0.3 if ahead else 0.6), side(end, not ahead, 0.3 if ahead else 0.6)
+    first, last = side(start, ahead, 0.3 if ahead else 0.2 + 0.2 * (number % 4)), side(end, not ahead, 0.3 if ahead else 0.6)
     middle = (first[0] + last[0]) / 2
     return first, (middle, first[1]), (middle, last[1]), last
 
@@ -112,10 +127,19 @@ def drawn(points, style):
     return f'<path d="M{a:.0f},{b:.0f} C{c:.0f},{d:.0f} {e:.0f},{f:.0f} {g:.0f},{h:.0f}" class="{style}"/>'
 
 
-def label(points, text, part):
-    """A text on a curve, at a part of its way."""
+def point_of(points, part):
+    """The point of a curve at a part of its way."""
     weights = (1 - part) ** 3, 3 * part * (1 - part) ** 2, 3 * part ** 2 * (1 - part), part ** 3
-    x, y = (sum(w * it[axis] for w, it in zip(weights, points)) for axis in (0, 1))
+    return tuple(sum(w * it[axis] for w, it in zip(weights, points)) for axis in (0, 1))
+
+
+def label(points, text, start, end):
+    """A text on a curve: behind its middle where it leads one column on, by its tail where it leads back, else in the middle."""
+    part = 0.7 if start.depth < end.depth else 0.5
+    if start.depth > end.depth:
+        parts_outside = (at / 50 for at in range(1, 50) if points[0][0] - point_of(points, at / 50)[0] >= 25)
+        part = next(parts_outside, 0.5)
+    x, y = point_of(points, part)
     return f'<text x="{x:.0f}" y="{y:.0f}" class="edge">{html.escape(text)}</text>'
 
 
@@ -130,12 +154,14 @@ style="fill: black; stroke: none; marker-end: none"/></marker></defs>
 
 def svg(worlds, edges):
     """A picture."""
-    yield HEAD.format(*place(worlds))
-    labels = []
-    for number, ((start, end), names) in enumerate(edges.items()):
-        points = curve(worlds[start], worlds[end], number)
+    width, height, far = place(worlds, edges)
+    yield HEAD.format(width, height)
+    labels, back = [], {}
+    for (start, end), names in edges.items():
+        back[start] = back.get(start, -1) + (worlds[start].depth > worlds[end].depth)
+        points = curve(worlds[start], worlds[end], far.get((start, end)), back[start])
         yield drawn(points, 'leads')
-        labels.append(label(points, ', '.join(names), 0.3))
+        labels.append(label(points, ', '.join(names), worlds[start], worlds[end]))
     for world in worlds.values():
         if world.suffix:
             end, bottom = worlds[world.suffix], world.y + world.height() * 0.9

@@ -210,6 +210,13 @@ class Draw(unittest.TestCase):
         status, text, _ = tool('draw', text=replies)
         self.assertEqual((0, replies.count('suffix ')), (status, text.count('dashed')))
 
+    def test_no_two_arrows_are_one(self):
+        names = 'ABCD'
+        script = ''.join(f"create user '{it}';" for it in names) + 'create relation S(k text);'
+        script += ''.join(f"insert into BELIEF '{it}' S values('{it}');" for it in names) + 'show tables;'
+        arrows = [it for it in tool('draw', '--svg', text=program(script))[1].splitlines() if it.endswith('class="leads"/>')]
+        self.assertEqual((16, 16), (len(arrows), len(set(arrows))))
+
     def test_too_many_worlds_are_left_to_graphviz(self):
         lines = ['world / depth 0'] + [f"world /'{it}' depth 1 suffix /" for it in range(12)]
         self.assertEqual(1, tool('draw', '--svg', text='\n'.join(lines))[0])
