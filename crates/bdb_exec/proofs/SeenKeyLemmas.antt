@@ -36,7 +36,7 @@ use Rattle.bdb_plan.specs.Naming.{columns_named}
 use Rattle.bdb_plan.specs.Running.{Reached, with_world, with_slot, plus_tuples, reached_if, rows_from}
 use Rattle.bdb_plan.specs.Sight.{Sight}
 use Rattle.bdb_exec.specs.LookUps.{looks_from}
-use Rattle.bdb_exec.specs.SeenKeys.{needs_columns_alone, columns_needed, without, behind_tests, numbers_of, IsKey, has_key, stands_by, stands_in, add_nothing, IsEnd, HasSeen}
+use Rattle.bdb_exec.specs.SeenKeys.{needs_columns_alone, columns_needed, without, behind_tests, numbers_of, IsKey, is_seen, stands_by, stands_in, add_nothing, IsEnd, HasSeen}
 
 -- ---- rows that stand there
 
@@ -335,7 +335,7 @@ module _ (sight : Sight) (plan : PlanFields) where
           let rows = same_key sight plan.take ys s z other (subst (λ zs. IsKey zs plan.take s other) steps it) its in
           ap (add_nothing found) (sym rows ∙ ap (λ zs. rows_from sight plan.take zs s) (sym steps)) ∙ nothing
 
-      by : (b : Bool) → is_eq (row_cmp other key) ≡ b → (b || has_key keys other) ≡ true → add_nothing found (rows_from sight plan.take ys z) ≡ true
+      by : (b : Bool) → is_eq (row_cmp other key) ≡ b → (b || is_seen keys other) ≡ true → add_nothing found (rows_from sight plan.take ys z) ≡ true
       by true e k = same (sym (row_exact.exact other key (is_eq-Equal (row_cmp other key) e)))
       by false e k = h ys z other ends its k
 

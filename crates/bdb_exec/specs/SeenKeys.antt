@@ -78,8 +78,8 @@ pub record IsKey (steps : List Step) (take : List Ref) (s : Reached) (k : Values
   pub known : known_row s.slots (columns_needed steps take) ≡ Some values
   pub key : k ≡ values ++ numbers_of (length steps) s
 
-abbrev pub has_key : List Values → Values → Bool
-has_key keys key = list_any (λ k. is_eq (row_cmp key k)) keys
+abbrev pub is_seen : List Values → Values → Bool
+is_seen keys key = list_any (λ k. is_eq (row_cmp key k)) keys
 
 -- ---- rows that are found already
 
@@ -106,4 +106,4 @@ pub record IsEnd (steps end : List Step) : Type 0 where
 
 -- where a key was seen, the steps that are left add nothing
 abbrev pub HasSeen : Sight → PlanFields → Collected → List Values → Type 0
-HasSeen sight plan found keys = (steps : List Step) (s : Reached) (key : Values) → IsEnd plan.steps steps → IsKey steps plan.take s key → has_key keys key ≡ true → add_nothing found (rows_from sight plan.take steps s) ≡ true
+HasSeen sight plan found keys = (steps : List Step) (s : Reached) (key : Values) → IsEnd plan.steps steps → IsKey steps plan.take s key → is_seen keys key ≡ true → add_nothing found (rows_from sight plan.take steps s) ≡ true

@@ -30,8 +30,9 @@ pub type Rows = List<List<Value>>;
 /// there are more than an answer may have. Of a world it reads the rows of a relation, or of the prefix of a key where the
 /// tests behind the choice ask for its first columns. Users, edges, the lengths of keys, the tuples of a whole relation in a world,
 /// and each tuple that was decoded are remembered until the end; and of each world and relation the tuples of the prefix of a
-/// key that was asked for last. Steps that depend on the values of columns alone aren't run again for values for which they were
-/// run, where the first column of some item that is chosen isn't among them.
+/// key that was asked for last. The tuples of a whole relation are looked up by the columns that tests ask for. Steps that
+/// depend on the values of columns alone aren't run again for values for which they were run, where the first column of some
+/// item that is chosen isn't among them; of such values at most 100,000 are remembered.
 pub fn run_plan<K: Keeper>(alloc: Global, keeper: &mut K, plan: &Plan) -> Result<Rows, ExecError>
     requires run { CanBeRun (K.seen keeper.old).kept }
     ensures rows { IfOk result (λ rows. rows ≡ meaning_of (sight_of (K.seen keeper.old).kept)

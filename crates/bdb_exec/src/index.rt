@@ -20,7 +20,9 @@ use std::collections::BTreeMap;
 /// Tuples by the values of some of their columns.
 #[derive(Drop)]
 pub struct Index {
+    /// The columns.
     pub cols: List<u32>,
+    /// By each choice of values of them the tuples that have these, in order.
     pub groups: BTreeMap<Key, List<Shared>>,
 }
 

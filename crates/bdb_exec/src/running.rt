@@ -226,6 +226,9 @@ fn run_key<K: Keeper>(
         Ok(()) => {}
         Err(error) => return Err(error),
     }
+    if !keys.has_room() {
+        return Ok(());
+    }
     match keys.add(key) {
         Ok(()) => Ok(()),
         Err(_) => {

@@ -6,7 +6,7 @@ ghost use Rattle.bdb_base.specs.Order.{row_cmp};
 ghost use Rattle.bdb_base.specs.SortedSet.{put_in};
 ghost use Rattle.bdb_base.specs.Safety.{operand_columns};
 ghost use Rattle.bdb_base.specs.declared.kinds.Value.TheVariants.{Int};
-ghost use Rattle.bdb_exec.specs.SeenKeys.{are_remembered, behind_tests, chooses, columns_needed, has_key, is_fixed, needed_before, needs_columns_alone, without, IsKey};
+ghost use Rattle.bdb_exec.specs.SeenKeys.{are_remembered, behind_tests, chooses, columns_needed, is_seen, is_fixed, needed_before, needs_columns_alone, without, IsKey};
 
 use crate::shared::Shared;
 use crate::state::State;
@@ -17,6 +17,9 @@ use bdb_queries::{known_row, must_hold};
 use std::alloc::{AllocError, Global};
 use std::collections::BTreeSet;
 use std::marker::Model;
+
+// So many keys are remembered at most.
+const MOST_KEYS: usize = 100_000;
 
 /// The keys for which the rest of the steps was run.
 #[derive(Drop)]
@@ -45,9 +48,14 @@ impl SeenKeys {
 
     /// Whether a key was seen.
     pub fn has(&self, key: &Key) -> bool
-        ensures { result ≡ has_key self.now key.now }
+        ensures { result ≡ is_seen self.now key.now }
     {
         self.keys.contains(key)
+    }
+
+    /// Whether one more key may be remembered: memory stays bounded, and what isn't remembered is run again.
+    pub fn has_room(&self) -> bool {
+        self.keys.len() < MOST_KEYS
     }
 
     /// Remembers a key.

@@ -22,7 +22,7 @@ use Rattle.bdb_plan.specs.Running.{meaning_of}
 use Rattle.bdb_plan.specs.Shown.{Shows}
 use Rattle.bdb_plan.specs.Sight.{Sight}
 use Rattle.bdb_plan.proofs.RunLemmas.{meaning_are_choices}
-use Rattle.bdb_trans.specs.TransLaws.{PlansMeanAnswers, PlansFitSights, OrdersMeanAnswers, OrdersFitSights}
+use Rattle.bdb_trans.specs.TransLaws.{PlansMeanAnswers, PlansFitSights, OrdersMeanAnswers, OrdersFitSights, WrittenOrdersAreOrders}
 use Rattle.bdb_trans.specs.Orders.{IsOrder, plan_in}
 use Rattle.bdb_trans.proofs.FitLemmas.{plan_is_fit, some_column, written_order}
 use Rattle.bdb_trans.proofs.HoldLemmas.{slots_from_steps, steps_from_slots}
@@ -83,3 +83,7 @@ pub uses_only_set : (catalog : Catalog) (q : Query) (items : ℕ) (steps : List 
     → items ≡ length q.items → steps ≡ plan_steps catalog.rels q → take ≡ q.take → UsesOnlySet items steps take
 unfolding plan_steps
 uses_only_set catalog q items steps take fits safe i s t = order_uses_only_set catalog q (order_of q.items) items steps take fits safe (written_order catalog q fits) i s t
+
+pub written_orders_are_orders : WrittenOrdersAreOrders
+unfolding plan_steps
+written_orders_are_orders catalog q fits = record { order = written_order catalog q fits; plan = refl }

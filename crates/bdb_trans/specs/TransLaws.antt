@@ -1,11 +1,12 @@
 -- What holds of the plans of queries, in the subject's own words. Each law is the contract of a function of `laws`.
 use Rattle.std.specs.Prelude.{◌≡◌, ℕ, true, List}
+use Rattle.bdb_base.specs.declared.kinds.Catalog.{Catalog}
 use Rattle.bdb_base.specs.declared.kinds.Query.{Query}
 use Rattle.bdb_base.specs.Bases.{Contents, IsValid}
 use Rattle.bdb_base.specs.Queries.{answers_of}
 use Rattle.bdb_base.specs.Safety.{query_fits, IsSafe}
 use Rattle.bdb_plan.specs.PlanLaws.{FitsSight}
-use Rattle.bdb_plan.specs.PlanOf.{plan_of}
+use Rattle.bdb_plan.specs.PlanOf.{plan_of, order_of}
 use Rattle.bdb_plan.specs.Running.{meaning_of}
 use Rattle.bdb_plan.specs.Shown.{Shows}
 use Rattle.bdb_plan.specs.Sight.{Sight}
@@ -30,3 +31,11 @@ OrdersMeanAnswers = (b : Contents) (sight : Sight) (number : List ℕ → ℕ) (
 abbrev pub OrdersFitSights : Type 0
 OrdersFitSights = (b : Contents) (sight : Sight) (number : List ℕ → ℕ) (q : Query) (order : List ℕ) → IsValid b.catalog b.stmts → Shows b sight number
     → query_fits b.catalog q ≡ true → IsSafe b.catalog.rels q → IsOrder q order → FitsSight sight (plan_in b.catalog.rels q order)
+
+-- The written order of the items of a query that fits is one, and its plan is the query's.
+pub record IsWritten (catalog : Catalog) (q : Query) : Type 0 where
+  pub order : IsOrder q (order_of q.items)
+  pub plan : plan_of catalog.rels q ≡ plan_in catalog.rels q (order_of q.items)
+
+abbrev pub WrittenOrdersAreOrders : Type 0
+WrittenOrdersAreOrders = (catalog : Catalog) (q : Query) → query_fits catalog q ≡ true → IsWritten catalog q

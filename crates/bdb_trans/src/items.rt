@@ -302,6 +302,7 @@ fn operand_set(set: &[u32], operand: &Operand) -> bool
     }
 }
 
+/// Whether an item is among those that are set.
 pub fn is_among(set: &[u32], item: u32) -> bool
     ensures { result ≡ is_among set.now item }
 {

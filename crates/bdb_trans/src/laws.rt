@@ -1,6 +1,6 @@
 //! The laws of the plans of queries.
 ghost use Rattle.bdb_trans.specs.Bounds.{OrdersReadFew, PlanReadsAreBounded};
-ghost use Rattle.bdb_trans.specs.TransLaws.{OrdersFitSights, OrdersMeanAnswers, PlansFitSights, PlansMeanAnswers};
+ghost use Rattle.bdb_trans.specs.TransLaws.{OrdersFitSights, OrdersMeanAnswers, PlansFitSights, PlansMeanAnswers, WrittenOrdersAreOrders};
 
 /// Whatever shows a valid base, the plan of a safe query that fits means the query's answers.
 pub fn plans_mean_answers()
@@ -30,4 +30,9 @@ pub fn orders_fit_sights()
 /// And it reads at most the product of one factor for each item.
 pub fn orders_read_few()
     ensures { OrdersReadFew }
+{}
+
+/// The written order of the items of a query that fits is one of these orders.
+pub fn written_orders_are_orders()
+    ensures { WrittenOrdersAreOrders }
 {}
